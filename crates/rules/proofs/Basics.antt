@@ -1,0 +1,162 @@
+-- What the other files use: choices whose test is known, induction on a measure, counting, and the pigeonhole principle.
+-- Assumes nothing.
+use mathlib.Core.Path.{_≡_, refl, sym, _∙_}
+use mathlib.Core.Logic.{_≢_}
+use mathlib.Core.Bool.{Bool, true, false, _&&_, _||_, or-true, false≢true}
+use mathlib.Core.List.{List, [], _∷_, _++_, map, map-append}
+use Prim.Native.Nat.{ℕ, zero, suc, _+_, _≤_, _<_}
+use native.Mathlib.Decide.{ℕ-discrete}
+use native.Mathlib.Omega.{arith}
+use lib.Dec.{eqb, ltb}
+use lib.ListN.{length, getD, length-append, length-map, List·getD-append}
+use lib.Seq.{getD-at}
+use borrow.Author.Tests.{ltb-true, lt-ltb, le-ltb, eq-eqb, ne-eqb}
+use Rattle.rules.specs.Words.{pick, every, below, count, All, Distinct}
+
+-- ---- tests
+
+pub pick-t {ℓ} : {A : Type ℓ} (b : Bool) (x y : A) → b ≡ true → pick b x y ≡ x
+pick-t b x y e = rw e
+
+pub pick-f {ℓ} : {A : Type ℓ} (b : Bool) (x y : A) → b ≡ false → pick b x y ≡ y
+pick-f b x y e = rw e
+
+-- both tests pass
+pub both : (s t : Bool) → (s && t) ≡ true → (s ≡ true) × (t ≡ true)
+both true t e = (refl, e)
+both false t e = absurd (false≢true e)
+
+-- neither test passes
+pub neither : (s t : Bool) → (s || t) ≡ false → (s ≡ false) × (t ≡ false)
+neither true t e = absurd (false≢true (sym e))
+neither false t e = (refl, e)
+
+-- ---- induction on a measure
+
+-- P holds of every x if it holds wherever it holds of all that have a lower measure
+module _ {A : Type 0} (measure : A → ℕ) (P : A → Type 0) (each : (x : A) → ((y : A) → measure y < measure x → P y) → P x) where
+  strong-to : (m : ℕ) (x : A) → measure x < m → P x
+  strong-to zero x h = absurd (omega arith)
+  strong-to (suc m) x h = each x (λ y l. strong-to m y (omega arith))
+
+  pub strong : (x : A) → P x
+  strong x = strong-to (suc (measure x)) x (omega arith)
+
+-- ---- counting
+
+pub count-at-most : (p : ℕ → Bool) (n : ℕ) → count p n ≤ n
+unfolding count
+count-at-most p zero = omega arith
+count-at-most p (suc n) = go (p n) (count-at-most p n)
+  where
+    go : (t : Bool) → count p n ≤ n → pick t 1 0 + count p n ≤ suc n
+    go true h = omega arith
+    go false h = omega arith
+
+-- a test that passes wherever another does counts as many, and more if there is a number that only it lets pass
+module _ (p q : ℕ → Bool) (more : (x : ℕ) → p x ≡ true → q x ≡ true) where
+  one : (x : ℕ) → pick {A = ℕ} (p x) 1 0 ≤ pick (q x) 1 0
+  one x = go (p x) (q x) (more x)
+    where
+      go : (s t : Bool) → (s ≡ true → t ≡ true) → pick {A = ℕ} s 1 0 ≤ pick t 1 0
+      go true t f = rw (f refl) (omega arith)
+      go false t f = omega arith
+
+  pub count-mono : (n : ℕ) → count p n ≤ count q n
+  unfolding count
+  count-mono zero = omega arith
+  count-mono (suc n) = omega (arith, one n, count-mono n)
+
+  pub count-grows : (n x : ℕ) → x < n → p x ≡ false → q x ≡ true → count p n < count q n
+  unfolding count
+  count-grows zero x b s t = omega arith
+  count-grows (suc n) x b s t = go (ℕ-discrete x n) (count-grows n x)
+    where
+      go : Dec (x ≡ n) → (x < n → p x ≡ false → q x ≡ true → count p n < count q n) → pick (p n) 1 0 + count p n < pick (q n) 1 0 + count q n
+      go (yes e) ih =
+          let s′ : p n ≡ false = rw e at s in
+          let t′ : q n ≡ true = rw e at t in
+          rw (s′, t′) (omega (arith, count-mono n))
+      go (no e) ih = omega (arith, one n, ih (omega arith) s t)
+
+-- how many of the numbers below n have an f below v: more for a higher v, if some f lies between
+abbrev pub under : (ℕ → ℕ) → ℕ → ℕ → ℕ
+under f n v = count (λ x. ltb (f x) v) n
+
+pub under-grows : (f : ℕ → ℕ) (n u v x : ℕ) → x < n → u ≤ f x → f x < v → under f n u < under f n v
+under-grows f n u v x b p q =
+    count-grows (λ x. ltb (f x) u) (λ x. ltb (f x) v) (λ y e. lt-ltb (f y) v (omega (arith, ltb-true (f y) u e)))
+    n x b (le-ltb (f x) u p) (lt-ltb (f x) v q)
+
+-- ---- every element of a list
+
+module _ {A : Type 0} where
+  pub All-map : {P Q : A → Type 0} → ((x : A) → P x → Q x) → (xs : List A) → All P xs → All Q xs
+  All-map f [] h = tt
+  All-map f (x ∷ xs) h = (f x (h .0), All-map f xs (h .1))
+
+  pub All-zip : {P Q R : A → Type 0} → ((x : A) → P x → Q x → R x) → (xs : List A) → All P xs → All Q xs → All R xs
+  All-zip f [] g h = tt
+  All-zip f (x ∷ xs) g h = (f x (g .0) (h .0), All-zip f xs (g .1) (h .1))
+
+  -- a test that every element passes
+  pub every-true : (p : A → Bool) (P : A → Type 0) → ((x : A) → p x ≡ true → P x) → (xs : List A) → every p xs ≡ true → All P xs
+  unfolding every
+  every-true p P f [] e = tt
+  every-true p P f (x ∷ xs) e = let b = both (p x) (every p xs) e in (f x (b .0), every-true p P f xs (b .1))
+
+  pub true-every : (p : A → Bool) (P : A → Type 0) → ((x : A) → P x → p x ≡ true) → (xs : List A) → All P xs → every p xs ≡ true
+  unfolding every
+  true-every p P f [] h = refl
+  true-every p P f (x ∷ xs) h = rw (f x (h .0), true-every p P f xs (h .1))
+
+-- ---- lists of numbers with no number twice
+
+abbrev elem : List ℕ → ℕ → Bool
+elem [] z = false
+elem (x ∷ xs) z = eqb x z || elem xs z
+
+elem-not : (z : ℕ) (xs : List ℕ) → All (λ y. y ≢ z) xs → elem xs z ≡ false
+elem-not z [] h = refl
+elem-not z (x ∷ xs) h = rw (ne-eqb x z (h .0)) (elem-not z xs (h .1))
+
+-- the pigeonhole principle: at most n different numbers are below n
+pub pigeonhole : (n : ℕ) (xs : List ℕ) → Distinct xs → All (λ x. x < n) xs → length xs ≤ n
+pigeonhole n xs d b = omega (arith, counted xs d b, count-at-most (elem xs) n)
+  where
+    counted : (xs : List ℕ) → Distinct xs → All (λ x. x < n) xs → length xs ≤ count (elem xs) n
+    counted [] d b = omega arith
+    counted (x ∷ xs) d b =
+        omega (
+          arith,
+          counted xs (d .1) (b .1),
+          count-grows (elem xs) (elem (x ∷ xs)) (λ z e. rw e (or-true (eqb x z))) n x (b .0) (elem-not x xs (d .0)) (rw (eq-eqb x x refl)),
+        )
+
+-- ---- the values of a function at 0 to n − 1
+
+pub length-below : (n : ℕ) → length (below n) ≡ n
+unfolding below
+length-below zero = refl
+length-below (suc n) = length-append (below n) (n ∷ []) ∙ omega (arith, length-below n)
+
+module _ {A : Type 0} (f : ℕ → A) where
+  pub length-values : (n : ℕ) → length (map f (below n)) ≡ n
+  length-values n = length-map (below n) f ∙ length-below n
+
+  pub values-more : (n : ℕ) → map f (below (suc n)) ≡ map f (below n) ++ (f n ∷ [])
+  unfolding below
+  values-more n = map-append f (below n) (n ∷ [])
+
+  pub value-at : (n k : ℕ) (other : A) → k < n → getD (map f (below n)) k other ≡ f k
+  value-at zero k other h = absurd (omega arith)
+  value-at (suc n) k other h = rw (values-more n) (go (ℕ-discrete k n) (value-at n k other))
+    where
+      go : Dec (k ≡ n) → (k < n → getD (map f (below n)) k other ≡ f k) → getD (map f (below n) ++ (f n ∷ [])) k other ≡ f k
+      go (yes e) ih = rw e (getD-at (map f (below n)) (f n) [] other n (length-values n))
+      go (no e) ih = List·getD-append (map f (below n)) (f n ∷ []) other k (omega (arith, length-values n)) ∙ ih (omega arith)
+
+  -- what holds of every value
+  pub All-values : (P : A → Type 0) → ((k : ℕ) → P (f k)) → (ks : List ℕ) → All P (map f ks)
+  All-values P h [] = tt
+  All-values P h (k ∷ ks) = (h k, All-values P h ks)

@@ -1,0 +1,239 @@
+-- Each question is answered or refused by a number that its list names, a refusal changes no lent output, and names never count.
+-- Assumes nothing.
+use mathlib.Core.Path.{_≡_, refl}
+use mathlib.Core.Logic.{_≢_}
+use mathlib.Core.Bool.{Bool, true, false, not}
+use mathlib.Core.List.{List, [], _∷_, _++_, List·Memᴰ, List·Memᴰ·head, List·Memᴰ·tail as next, Memᴰ·append-right}
+use Prim.Native.Nat.{ℕ, zero, suc, _+_, _≤_, _<_}
+use native.Mathlib.Decide.{ℕ-discrete}
+use native.Mathlib.Omega.{arith}
+use lib.Dec.{ltb}
+use lib.ListN.{length, drop}
+use borrow.Author.Tests.{ltb-true, eq-eqb, ne-eqb}
+use Rattle.rules.specs.Words.{pick, Line, _when_, first_otherwise_, All}
+use Rattle.rules.specs.Table.{
+  byte,
+  Record,
+  Kept,
+  bad-tag,
+  length-allowed,
+  contents-fit,
+  not-above,
+  too-many,
+  record-in,
+  fault,
+  Judged,
+  accepted,
+  refused,
+  behind,
+  judge,
+  nothing-behind,
+  read,
+  number-of,
+  place-of,
+}
+use Rattle.rules.specs.Links.{differing, too-different}
+use Rattle.rules.specs.Questions.{
+  Refusal,
+  refusal,
+  bad-table,
+  Answer,
+  answer,
+  afterwards,
+  reading,
+  pairing,
+  filling,
+  filled-costs,
+  filled-sets,
+  entering,
+  interfacing,
+  interfaced,
+  following,
+  traced,
+  naming,
+  naming-of-two,
+}
+use Rattle.rules.specs.Demands.{
+  TableRefusals,
+  table-numbers,
+  RefusedBy,
+  QuestionRefusals,
+  LentOutputsStay,
+  NamesNeverCount,
+}
+use Rattle.rules.proofs.Basics.{pick-t, pick-f}
+use Rattle.rules.proofs.Judging.{size-in, contents-in, Judges, stops, ends, goes, judge-judges}
+
+-- what holds of all that an applying line gives, and of what stands behind `otherwise`, holds of the first that applies
+first-holds : {A : Type 0} (P : A → Type 0) (ls : List (Line A)) (a : A) → All (λ l. l .applies ≡ true → P (l .gives)) ls → P a
+    → P (first ls otherwise a)
+first-holds P [] a hs h = h
+first-holds P (l ∷ ls) a hs h = go (l .applies) (hs .0) (first-holds P ls a (hs .1) h)
+  where
+    go : (t : Bool) → (t ≡ true → P (l .gives)) → P (first ls otherwise a) → P (pick t (l .gives) (first ls otherwise a))
+    go true f g = f refl
+    go false f g = g
+
+-- ---- tables
+
+fault-at-most : (kept : Kept) (left : List ℕ) → fault kept left ≤ 6
+unfolding fault
+fault-at-most kept left =
+    first-holds (λ n. n ≤ 6) (
+    1 when ltb (length left) 3
+    ∷ 2 when bad-tag kept (byte left 0)
+    ∷ 3 when not (length-allowed (byte left 0) (size-in left))
+    ∷ 1 when ltb (length left) (3 + size-in left)
+    ∷ 4 when not (contents-fit (kept .routers) (byte left 0) (contents-in left))
+    ∷ 5 when not-above kept (byte left 0) (contents-in left)
+    ∷ 6 when too-many kept (byte left 0)
+    ∷ []
+    ) 0 (omega arith) (omega arith)
+
+-- if it refuses, then by one of 1 to 7
+abbrev By-1-to-7 : Judged → Type 0
+By-1-to-7 (accepted rs end) = Unit {0}
+By-1-to-7 (refused number place) = (1 ≤ number) × (number ≤ 7)
+
+judged-by : {kept : Kept} {place : ℕ} {left : List ℕ} {j : Judged} → Judges kept place left j → By-1-to-7 j
+judged-by {kept} {left = left} (stops f) = omega (arith, fault-at-most kept left)
+judged-by (ends g e) = tt
+judged-by (goes {place = place} {left = left} {j = j} g e r) = go (record-in place left) j (judged-by r)
+  where
+    go : (r : Record) (j : Judged) → By-1-to-7 j → By-1-to-7 (behind r j)
+    go r (accepted rs end) h = tt
+    go r (refused number place) h = h
+
+read-by : (bytes : List ℕ) → By-1-to-7 (read bytes)
+unfolding read
+read-by bytes = go (judge bytes) (judged-by (judge-judges bytes))
+  where
+    ends-at : (t : Bool) (rs : List Record) (end : ℕ) → By-1-to-7 (pick t (refused 7 end) (accepted rs end))
+    ends-at true rs end = omega arith
+    ends-at false rs end = tt
+
+    go : (j : Judged) → By-1-to-7 j → By-1-to-7 (nothing-behind (length bytes) j)
+    go (accepted rs end) h = ends-at (ltb end (length bytes)) rs end
+    go (refused number place) h = h
+
+pub table-refusals : TableRefusals
+table-refusals bytes number place e = rw e at (read-by bytes)
+
+-- ---- questions
+
+-- what is asked of a refusal: the number is listed, and table and place fit it
+record Listed (last-table : ℕ) (numbers : List ℕ) (r : Refusal) : Type 0 where
+  by-listed : List·Memᴰ (r .number) (0 ∷ numbers)
+  of-a-table : r .table ≤ last-table
+  from-8 : 8 ≤ r .number → (r .table ≡ 0) × (r .place ≡ 0)
+  of-none : r .number ≡ 0 → (r .table ≡ 0) × (r .place ≡ 0)
+
+-- the first number of a list
+here : {n : ℕ} {ns : List ℕ} → List·Memᴰ n (n ∷ ns)
+here = List·Memᴰ·head refl
+
+-- the m numbers from k on, and behind them more
+abbrev run : ℕ → ℕ → List ℕ → List ℕ
+run zero k more = more
+run (suc m) k more = k ∷ run m (suc k) more
+
+in-run : (m k n : ℕ) (more : List ℕ) → k ≤ n → n < k + m → List·Memᴰ n (run m k more)
+in-run zero k n more l u = absurd (omega arith)
+in-run (suc m) k n more l u = go (ℕ-discrete n k) (in-run m (suc k) n more)
+  where
+    go : Dec (n ≡ k) → (suc k ≤ n → n < suc k + m → List·Memᴰ n (run m (suc k) more)) → List·Memᴰ n (k ∷ run m (suc k) more)
+    go (yes e) f = List·Memᴰ·head e
+    go (no e) f = next (f (omega arith) (omega arith))
+
+-- a refusal that says neither table nor place
+plain : {last-table : ℕ} {numbers : List ℕ} (number : ℕ) → List·Memᴰ number (0 ∷ numbers) → Listed last-table numbers (refusal number)
+plain number m = record { by-listed = m; of-a-table = omega arith; from-8 = omega arith; of-none = omega arith }
+
+-- a line of a question's list gives what is asked
+abbrev Lists : ℕ → List ℕ → Line Refusal → Type 0
+Lists last-table numbers l = l .applies ≡ true → Listed last-table numbers (l .gives)
+
+-- 1 to 7
+by-table : {last-table : ℕ} {more : List ℕ} (which : ℕ) (bytes : List ℕ) → which ≤ last-table
+    → Lists last-table (table-numbers more) (bad-table which bytes)
+unfolding bad-table
+by-table {last-table} {more} which bytes w e = go (read bytes) (read-by bytes) (ltb-true 0 (number-of (read bytes)) e)
+  where
+    go : (j : Judged) → By-1-to-7 j → 0 < number-of j → Listed last-table (table-numbers more) (record { number = number-of j; table = which; place = place-of j })
+    go (accepted rs end) h l = absurd (omega arith)
+    go (refused number place) h l = record {
+      by-listed = in-run 8 0 number more (omega arith) (omega arith);
+      of-a-table = w;
+      from-8 = omega arith;
+      of-none = omega arith;
+    }
+
+-- a number from 8 on, behind those of a table
+by-number : {last-table : ℕ} {more : List ℕ} {number : ℕ} {t : Bool} → List·Memᴰ number more
+    → Lists last-table (table-numbers more) (refusal number when t)
+by-number {number = number} m e = plain number (Memᴰ·append-right (0 ∷ table-numbers []) m)
+
+-- a question whose every line does so
+answered : {A : Type 0} (last-table : ℕ) (numbers : List ℕ) (refusals : List (Line Refusal)) (zeros values : A)
+    → All (Lists last-table numbers) refusals → RefusedBy last-table numbers zeros (answer refusals zeros values)
+unfolding answer
+answered last-table numbers refusals zeros values hs =
+    let h = first-holds (Listed last-table numbers) refusals (refusal 0) hs (plain 0 here) in
+    record {
+      by-listed = h .by-listed;
+      of-a-table = h .of-a-table;
+      from-8 = h .from-8;
+      of-none = h .of-none;
+      else-zero = λ r. pick-f _ _ _ (ne-eqb _ 0 r);
+    }
+
+pub question-refusals : QuestionRefusals
+unfolding reading pairing filling entering interfacing following naming naming-of-two
+question-refusals = record {
+  of-reading = λ table. answered _ _ _ _ _ (by-table 0 table (omega arith), tt);
+  of-pairing = λ old new. answered _ _ _ _ _ (by-table 0 old (omega arith), (by-table 1 new (omega arith), (by-number here, tt)));
+  of-filling = λ table d costs sets. answered _ _ _ _ _ (by-table 0 table (omega arith), (by-number here, (by-number (next here), tt)));
+  of-entering = λ table i j d. answered _ _ _ _ _ (by-table 0 table (omega arith), (by-number here, tt));
+  of-interfacing = λ table i out. answered _ _ _ _ _ (by-table 0 table (omega arith), (by-number here, (by-number (next here), tt)));
+  of-following = λ old new s d views trace.
+      answered _ _ _ _ _ (
+        by-table 0 old (omega arith),
+        (
+          by-table 1 new (omega arith),
+          (by-number here, (by-number (next here), (by-number (next (next (next here))), (by-number (next (next here)), tt)))),
+        ),
+      );
+  of-naming = λ table i. answered _ _ _ _ _ (by-table 0 table (omega arith), (by-number here, tt));
+  of-naming-of-two = λ old new i. answered _ _ _ _ _ (by-table 0 old (omega arith), (by-table 1 new (omega arith), (by-number here, tt)));
+}
+
+-- where nothing is refused the values are given
+pub gives-values : {A : Type 0} (refusals : List (Line Refusal)) (zeros values : A)
+    → answer refusals zeros values .refusal .number ≡ 0 → answer refusals zeros values .values ≡ values
+unfolding answer
+gives-values refusals zeros values e = pick-t _ _ _ (eq-eqb _ 0 e)
+
+-- ---- lent outputs
+
+pub writes : {A : Type 0} (a : Answer A) (written lent : List ℕ) → a .refusal .number ≡ 0 → afterwards a written lent ≡ written ++ drop (length written) lent
+unfolding afterwards
+writes a written lent e = pick-t _ _ _ (eq-eqb (a .refusal .number) 0 e)
+
+pub stays : {A : Type 0} (a : Answer A) (written lent : List ℕ) → a .refusal .number ≢ 0 → afterwards a written lent ≡ lent
+unfolding afterwards
+stays a written lent r = pick-f _ _ _ (ne-eqb (a .refusal .number) 0 r)
+
+pub lent-outputs-stay : LentOutputsStay
+unfolding filled-costs filled-sets interfaced traced
+lent-outputs-stay = record {
+  costs-stay = λ table d costs sets. stays (filling table d costs sets) _ costs;
+  sets-stay = λ table d costs sets. stays (filling table d costs sets) _ sets;
+  table-stays = λ table i out. stays (interfacing table i out) _ out;
+  trace-stays = λ old new s d views trace. stays (following old new s d views trace) _ trace;
+}
+
+-- ---- names
+
+pub names-never-count : NamesNeverCount
+unfolding too-different differing
+names-never-count old new ms ns = refl

@@ -1,0 +1,102 @@
+-- What a table's weights are like: small, the same both ways, between routers of the table, and each link's own.
+-- Assumes nothing.
+use mathlib.Core.Path.{_≡_, refl}
+use mathlib.Core.List.{List, [], _∷_, map}
+use mathlib.Core.Bool.{Bool, true, false, _&&_, _||_, or-comm, false≢true}
+use mathlib.Core.Logic.{_⊎_, inl, inr}
+use Prim.Native.Nat.{ℕ, _+_, _*_, _≤_, _<_}
+use native.Mathlib.Omega.{arith}
+use lib.Dec.{eqb}
+use borrow.Author.Tests.{eqb-true, eq-eqb}
+use Rattle.rules.specs.Words.{pick, All, Rising}
+use Rattle.rules.specs.Table.{Link, Table}
+use Rattle.rules.specs.Layout.{LinkFits, pair, Obeys}
+use Rattle.rules.specs.Links.{joins, weight-in, weight}
+use Rattle.rules.proofs.Basics.{All-zip, pick-f}
+use Rattle.rules.proofs.CostLaws.{Net, BothWays}
+
+-- the same two ends, one way round or the other
+abbrev pub SameEnds : ℕ → ℕ → ℕ → ℕ → Type 0
+SameEnds a b i k = ((a ≡ i) × (b ≡ k)) ⊎ ((a ≡ k) × (b ≡ i))
+
+either-both : (s t u v : Bool) → ((s && t) || (u && v)) ≡ true → ((s ≡ true) × (t ≡ true)) ⊎ ((u ≡ true) × (v ≡ true))
+either-both true true u v e = inl (refl, refl)
+either-both true false true v e = inr (refl, e)
+either-both true false false v e = absurd (false≢true e)
+either-both false t true v e = inr (refl, e)
+either-both false t false v e = absurd (false≢true e)
+
+pub ends-of : (l : Link) (i k : ℕ) → joins l i k ≡ true → SameEnds (l .a) (l .b) i k
+ends-of l i k e = go (either-both (eqb (l .a) i) (eqb (l .b) k) (eqb (l .a) k) (eqb (l .b) i) e)
+  where
+    go : ((eqb (l .a) i ≡ true) × (eqb (l .b) k ≡ true)) ⊎ ((eqb (l .a) k ≡ true) × (eqb (l .b) i ≡ true)) → SameEnds (l .a) (l .b) i k
+    go (inl (s, t)) = inl (eqb-true (l .a) i s, eqb-true (l .b) k t)
+    go (inr (s, t)) = inr (eqb-true (l .a) k s, eqb-true (l .b) i t)
+
+pub weight-both-ways : (ls : List Link) → BothWays (weight-in ls)
+unfolding weight-in
+weight-both-ways [] i k = refl
+weight-both-ways (l ∷ ls) i k = rw (or-comm (eqb (l .a) i && eqb (l .b) k) (eqb (l .a) k && eqb (l .b) i), weight-both-ways ls i k)
+
+module _ (n : ℕ) where
+  weight-small : (ls : List Link) → All (LinkFits n) ls → (i k : ℕ) → weight-in ls i k ≤ 65535
+  unfolding weight-in
+  weight-small [] h i k = omega arith
+  weight-small (l ∷ ls) h i k = go (joins l i k) (weight-small ls (h .1) i k)
+    where
+      go : (t : Bool) → weight-in ls i k ≤ 65535 → pick t (l .weight) (weight-in ls i k) ≤ 65535
+      go true e = h .0 .weight-fits
+      go false e = e
+
+  weight-inside : (ls : List Link) → All (LinkFits n) ls → (i k : ℕ) → 0 < weight-in ls i k → (i < n) × (k < n)
+  unfolding weight-in
+  weight-inside [] h i k p = absurd (omega arith)
+  weight-inside (l ∷ ls) h i k p = go (joins l i k) refl (weight-inside ls (h .1) i k) p
+    where
+      far : SameEnds (l .a) (l .b) i k → (i < n) × (k < n)
+      far (inl s) = omega (arith, h .0)
+      far (inr s) = omega (arith, h .0)
+
+      go : (t : Bool) → joins l i k ≡ t → (0 < weight-in ls i k → (i < n) × (k < n)) → 0 < pick t (l .weight) (weight-in ls i k) → (i < n) × (k < n)
+      go true e ih p = far (ends-of l i k e)
+      go false e ih p = ih p
+
+  -- a link with a higher pair is another link
+  other : (l m : Link) → LinkFits n l → LinkFits n m → n ≤ 64 → pair l < pair m → joins l (m .a) (m .b) ≡ false
+  other l m f g few h = go (joins l (m .a) (m .b)) refl
+    where
+      clash : SameEnds (l .a) (l .b) (m .a) (m .b) → ⊥
+      clash (inl s) = omega arith
+      clash (inr s) = omega arith
+
+      go : (t : Bool) → joins l (m .a) (m .b) ≡ t → t ≡ false
+      go true e = absurd (clash (ends-of l (m .a) (m .b) e))
+      go false e = refl
+
+  -- each link of a table has its own weight
+  pub own : n ≤ 64 → (ls : List Link) → All (LinkFits n) ls → Rising (map pair ls) → All (λ m. weight-in ls (m .a) (m .b) ≡ m .weight) ls
+  unfolding weight-in
+  own few [] f r = tt
+  own few (l ∷ ls) f r = (
+    rw (eq-eqb (l .a) (l .a) refl, eq-eqb (l .b) (l .b) refl),
+    All-zip later ls (All-zip (λ m g h. other l m (f .0) g few h) ls (f .1) (apart ls (r .0))) (own few ls (f .1) (r .1)),
+  )
+    where
+      apart : (ms : List Link) → All (λ x. pair l < x) (map pair ms) → All (λ m. pair l < pair m) ms
+      apart [] h = tt
+      apart (m ∷ ms) h = (h .0, apart ms (h .1))
+
+      later : (m : Link) → joins l (m .a) (m .b) ≡ false → weight-in ls (m .a) (m .b) ≡ m .weight
+          → pick (joins l (m .a) (m .b)) (l .weight) (weight-in ls (m .a) (m .b)) ≡ m .weight
+      later m g h = rw g h
+
+-- the weights of a table that obeys the layout
+pub net : (t : Table) → Obeys t → Net (t .routers) (weight t)
+net t o = record {
+  few = o .few-routers;
+  inside = weight-inside (t .routers) (t .links) (o .links-fit);
+  small = weight-small (t .routers) (t .links) (o .links-fit);
+}
+
+pub both-ways : (t : Table) → BothWays (weight t)
+both-ways t = weight-both-ways (t .links)

@@ -1,0 +1,59 @@
+-- What a router does with a packet, and its full interface table.
+use mathlib.Core.Bool.{Bool, not}
+use mathlib.Core.List.{List, [], _∷_, map, flatten}
+use Prim.Native.Nat.{ℕ}
+use Rattle.rules.specs.Words.{_=?_, _<?_, pick, Line, _when_, first_otherwise_, below}
+use Rattle.rules.specs.Table.{Table}
+use Rattle.rules.specs.Routes.{cost, no-cost}
+use Rattle.rules.specs.NextHops.{has, chosen, next-hops}
+
+pub data Entry : Type 0 where
+  deliver discard no-route : Entry
+  forward : ℕ → Entry
+
+-- What the entries of one view for one destination are made of: whether router i has a route, whether it discards a packet that comes from
+-- router j, and the hop that it forwards to.
+pub record Ways : Type 0 where
+  pub has-route : ℕ → Bool
+  pub discards : ℕ → ℕ → Bool
+  pub hop : ℕ → ℕ
+
+-- router i, previous hop j, destination d: the first line that applies
+unfoldable pub entry-by : Ways → ℕ → ℕ → ℕ → Entry
+entry-by ways i j d =
+    first deliver when (i =? d)
+    ∷ no-route when not (ways .has-route i)
+    ∷ discard when ways .discards i j
+    ∷ []
+    otherwise forward (ways .hop i)
+
+-- The rules of the base: PIPO discards where j is any member of the next-hop set, and the hop is the chosen one.
+unfoldable pub ways : Table → ℕ → Ways
+ways t d = record {
+  has-route = λ i. cost t i d <? no-cost;
+  discards = λ i j. has (next-hops t i d) j;
+  hop = λ i. chosen (next-hops t i d);
+}
+
+-- the previous hop of a packet that starts here
+abbrev pub starts-here : ℕ
+starts-here = 255
+
+unfoldable pub entry : Table → ℕ → ℕ → ℕ → Entry
+entry t i j d = entry-by (ways t d) i j d
+
+-- ---- the full interface table
+
+abbrev pub code : Entry → ℕ
+code (forward k) = k
+code deliver = 128
+code discard = 129
+code no-route = 130
+
+-- one row: previous hop j, a column for each destination; the whole row of the router itself is 131
+unfoldable pub row : Table → ℕ → ℕ → List ℕ
+row t i j = map (λ d. pick (i =? j) 131 (code (entry t i j d))) (below (t .routers))
+
+-- row 255 first, then previous hops 0 to N − 1
+unfoldable pub interfaces : Table → ℕ → List ℕ
+interfaces t i = flatten (map (row t i) (starts-here ∷ below (t .routers)))

@@ -1,0 +1,144 @@
+-- The bench examples of document 01, on bytes: P1 to P12 as one list of questions and one of answers, an interface table, and listings.
+use mathlib.Core.Path.{_≡_}
+use mathlib.Core.List.{List, [], _∷_, _++_, map}
+use Prim.Native.Nat.{ℕ}
+use lib.ListN.{replicate}
+use Rattle.rules.specs.Words.{_=?_, pick, text}
+use Rattle.rules.specs.Questions.{reading, following, traced, interfaced}
+use Rattle.rules.specs.Listing.{listing}
+
+-- ---- tables
+
+abbrev routers : ℕ → List ℕ
+routers n = 0x01 ∷ 0x00 ∷ 0x01 ∷ n ∷ []
+
+abbrev link : ℕ → ℕ → ℕ → List ℕ
+link a b weight = 0x04 ∷ 0x00 ∷ 0x04 ∷ a ∷ b ∷ 0x00 ∷ weight ∷ []
+
+abbrev table-end : List ℕ
+table-end = 0x7F ∷ 0x00 ∷ 0x00 ∷ []
+
+abbrev pub triangle-old : List ℕ
+triangle-old = routers 3 ++ link 0 1 1 ++ link 0 2 5 ++ link 1 2 1 ++ table-end
+
+abbrev pub triangle-new : List ℕ
+triangle-new = routers 3 ++ link 0 1 1 ++ link 0 2 5 ++ table-end
+
+abbrev pub ring-old : List ℕ
+ring-old =
+    routers 7 ++ link 0 1 1 ++ link 0 5 1 ++ link 0 6 10 ++ link 1 4 1 ++ link 2 3 1 ++ link 2 5 1 ++ link 3 4 1 ++ link 3 6 1 ++ table-end
+
+abbrev pub ring-new : List ℕ
+ring-new = routers 7 ++ link 0 1 1 ++ link 0 5 1 ++ link 0 6 10 ++ link 1 4 1 ++ link 2 3 1 ++ link 2 5 1 ++ link 3 4 1 ++ table-end
+
+abbrev pub pair-linked : List ℕ
+pair-linked = routers 2 ++ link 0 1 1 ++ table-end
+
+abbrev pub pair-apart : List ℕ
+pair-apart = routers 2 ++ table-end
+
+abbrev pub square : List ℕ
+square = routers 4 ++ link 0 1 1 ++ link 0 2 1 ++ link 1 3 1 ++ link 2 3 1 ++ table-end
+
+-- ---- P1 to P12
+
+pub data Question : Type 0 where
+  reads : List ℕ → Question
+  follows : List ℕ → List ℕ → ℕ → ℕ → List ℕ → Question
+
+-- accepted with N and the number of links; refused with number and place; ended with the outcome's code, router, hops, and the bytes of the trace
+pub data Reply : Type 0 where
+  accepts : ℕ → ℕ → Reply
+  refuses : ℕ → ℕ → Reply
+  ends : ℕ → ℕ → ℕ → List ℕ → Reply
+
+-- eight bytes of trace are lent
+abbrev lent : List ℕ
+lent = replicate 8 0xEE
+
+unfoldable pub reply : Question → Reply
+reply (reads table) =
+    let a = reading table in
+    pick (a .refusal .number =? 0) (accepts (a .values .routers) (a .values .links)) (refuses (a .refusal .number) (a .refusal .place))
+reply (follows old new s d views) =
+    let a = following old new s d views lent in
+    pick (a .refusal .number =? 0) (ends (a .values .outcome) (a .values .router) (a .values .hops) (traced old new s d views lent))
+    (refuses (a .refusal .number) (a .refusal .place))
+
+abbrev O : ℕ
+O = 0
+
+abbrev N : ℕ
+N = 1
+
+-- P11 stands for each of its four lists
+abbrev pub questions : List Question
+questions =
+    reads []
+    ∷ reads (0x01 ∷ 0x00 ∷ 0x01 ∷ 0x01 ∷ 0x7F ∷ 0x00 ∷ 0x00 ∷ [])
+    ∷ reads (0x01 ∷ 0x00 ∷ 0x01 ∷ 0x40 ∷ 0x7F ∷ 0x00 ∷ 0x00 ∷ [])
+    ∷ reads (0x01 ∷ 0x00 ∷ 0x01 ∷ 0x41 ∷ 0x7F ∷ 0x00 ∷ 0x00 ∷ [])
+    ∷ reads (0x01 ∷ 0x00 ∷ 0x01 ∷ 0x02 ∷ 0x04 ∷ 0x00 ∷ 0x04 ∷ 0x00 ∷ 0x01 ∷ 0x00 ∷ 0x00 ∷ 0x7F ∷ 0x00 ∷ 0x00 ∷ [])
+    ∷ follows triangle-old triangle-new 1 2 (N ∷ O ∷ [])
+    ∷ follows triangle-old triangle-new 1 2 (N ∷ N ∷ [])
+    ∷ follows triangle-old triangle-new 0 2 (O ∷ O ∷ [])
+    ∷ follows ring-old ring-new 0 6 (O ∷ O ∷ O ∷ N ∷ N ∷ N ∷ [])
+    ∷ follows ring-old ring-new 3 6 (N ∷ N ∷ N ∷ N ∷ N ∷ N ∷ [])
+    ∷ follows triangle-old triangle-new 2 2 (O ∷ O ∷ [])
+    ∷ follows triangle-old triangle-new 2 2 (O ∷ N ∷ [])
+    ∷ follows triangle-old triangle-new 2 2 (N ∷ O ∷ [])
+    ∷ follows triangle-old triangle-new 2 2 (N ∷ N ∷ [])
+    ∷ follows pair-linked pair-apart 0 1 (N ∷ [])
+    ∷ []
+
+-- 128 delivered, 129 discarded, 130 no route, 132 lost; later bytes of the trace stay
+abbrev pub replies : List Reply
+replies =
+    refuses 1 0
+    ∷ accepts 1 0
+    ∷ accepts 64 0
+    ∷ refuses 4 0
+    ∷ refuses 4 4
+    ∷ ends 129 0 1 (1 ∷ 0 ∷ replicate 6 0xEE)
+    ∷ ends 128 2 2 (1 ∷ 0 ∷ 2 ∷ replicate 5 0xEE)
+    ∷ ends 132 1 1 (0 ∷ 1 ∷ replicate 6 0xEE)
+    ∷ ends 129 3 3 (0 ∷ 1 ∷ 4 ∷ 3 ∷ replicate 4 0xEE)
+    ∷ ends 128 6 4 (3 ∷ 2 ∷ 5 ∷ 0 ∷ 6 ∷ replicate 3 0xEE)
+    ∷ ends 128 2 0 (2 ∷ replicate 7 0xEE)
+    ∷ ends 128 2 0 (2 ∷ replicate 7 0xEE)
+    ∷ ends 128 2 0 (2 ∷ replicate 7 0xEE)
+    ∷ ends 128 2 0 (2 ∷ replicate 7 0xEE)
+    ∷ ends 130 0 0 (0 ∷ replicate 7 0xEE)
+    ∷ []
+
+abbrev pub BenchExamples : Type 0
+BenchExamples = map reply questions ≡ replies
+
+-- ---- the old triangle's interface table of router 0, in thirteen lent bytes
+
+abbrev pub InterfaceExample : Type 0
+InterfaceExample =
+    interfaced triangle-old 0 (replicate 13 0xEE)
+    ≡ 128 ∷ 1 ∷ 1 ∷ 131 ∷ 131 ∷ 131 ∷ 128 ∷ 129 ∷ 129 ∷ 128 ∷ 1 ∷ 1 ∷ 0xEE ∷ []
+
+-- ---- listings: of the square, of two routers without a link, and of a refused table
+
+abbrev pub ListingExamples : Type 0
+ListingExamples =
+    map listing (square ∷ pair-apart ∷ (routers 65 ++ table-end) ∷ [])
+    ≡ (text "router dest cost next\n"
+    ++ text "0 1 1 1\n"
+    ++ text "0 2 1 2\n"
+    ++ text "0 3 2 1,2\n"
+    ++ text "1 0 1 0\n"
+    ++ text "1 2 2 0,3\n"
+    ++ text "1 3 1 3\n"
+    ++ text "2 0 1 0\n"
+    ++ text "2 1 2 0,3\n"
+    ++ text "2 3 1 3\n"
+    ++ text "3 0 2 1,2\n"
+    ++ text "3 1 1 1\n"
+    ++ text "3 2 1 2\n")
+    ∷ (text "router dest cost next\n" ++ text "0 1 - -\n" ++ text "1 0 - -\n")
+    ∷ text "refused 4 at 0\n"
+    ∷ []

@@ -1,0 +1,13 @@
+pub mod Words
+pub mod Table
+pub mod Layout
+pub mod Links
+pub mod Routes
+pub mod NextHops
+pub mod Entries
+pub mod Paths
+pub mod Names
+pub mod Listing
+pub mod Questions
+pub mod Demands
+pub mod Examples

@@ -1,0 +1,60 @@
+-- What the listing program prints, as bytes: line by line, and the lines joined.
+use mathlib.Core.Bool.{true, false, not}
+use mathlib.Core.List.{List, [], _∷_, _++_, map, flatten}
+use Prim.Native.Nat.{ℕ, zero, suc, _+_, _/_, _%_}
+use Rattle.rules.specs.Words.{_=?_, _<?_, pick, those, below, text}
+use Rattle.rules.specs.Table.{Table, Judged, accepted, refused, read, table-of}
+use Rattle.rules.specs.Routes.{cost, no-cost}
+use Rattle.rules.specs.NextHops.{has, next-hops}
+
+-- a number below 10 ^ most in decimal digits
+unfoldable pub digits : ℕ → ℕ → List ℕ
+digits zero x = []
+digits (suc most) x = elim (x <? 10) [ true ↦ (48 + x) ∷ [] | false ↦ digits most (x / 10) ++ ((48 + x % 10) ∷ []) ]
+
+-- twenty digits hold every 64-bit number
+abbrev pub decimal : ℕ → List ℕ
+decimal x = digits 20 x
+
+-- every line ends with one line feed
+abbrev pub ended-line : List ℕ → List ℕ
+ended-line bytes = bytes ++ text "\n"
+
+unfoldable pub joined-by-commas : List (List ℕ) → List ℕ
+joined-by-commas [] = []
+joined-by-commas (x ∷ []) = x
+joined-by-commas (x ∷ y ∷ ys) = x ++ text "," ++ joined-by-commas (y ∷ ys)
+
+-- the members of a set, rising
+unfoldable pub members : ℕ → List ℕ
+members set = those (has set) (below 64)
+
+-- cost and set members; no route prints `-` twice
+unfoldable pub cost-and-next : Table → ℕ → ℕ → List ℕ
+cost-and-next t i d =
+    pick (cost t i d <? no-cost)
+    (decimal (cost t i d) ++ text " " ++ joined-by-commas (map decimal (members (next-hops t i d))))
+    (text "- -")
+
+-- router, destination, cost, set members
+unfoldable pub line : Table → ℕ → ℕ → List ℕ
+line t i d = ended-line (decimal i ++ text " " ++ decimal d ++ text " " ++ cost-and-next t i d)
+
+-- rising router, rising destination other than the router
+unfoldable pub lines : Table → List (List ℕ)
+lines t = flatten (map (λ i. map (line t i) (those (λ d. not (d =? i)) (below (t .routers)))) (below (t .routers)))
+
+unfoldable pub header : List ℕ
+header = ended-line (text "router dest cost next")
+
+-- a refusal prints only this
+unfoldable pub refusal-line : ℕ → ℕ → List ℕ
+refusal-line number place = ended-line (text "refused " ++ decimal number ++ text " at " ++ decimal place)
+
+unfoldable pub listing-lines : Judged → List (List ℕ)
+listing-lines (accepted rs end) = header ∷ lines (table-of rs)
+listing-lines (refused number place) = refusal-line number place ∷ []
+
+-- the listing of a table's bytes
+unfoldable pub listing : List ℕ → List ℕ
+listing bytes = flatten (listing-lines (read bytes))

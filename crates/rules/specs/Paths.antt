@@ -1,0 +1,86 @@
+-- Following one packet.
+use mathlib.Core.Bool.{Bool}
+use mathlib.Core.List.{List, [], _∷_}
+use Prim.Native.Nat.{ℕ, zero, suc, _-_}
+use Rattle.rules.specs.Words.{_=?_, _<?_, pick}
+use Rattle.rules.specs.Table.{Table, byte}
+use Rattle.rules.specs.Links.{weight}
+use Rattle.rules.specs.Entries.{Entry, deliver, discard, no-route, forward, Ways, entry-by, ways, starts-here}
+
+-- ---- views
+
+pub data View : Type 0 where
+  old-view new-view : View
+
+-- the one of two that a view means
+abbrev pub by : {A : Type 0} → View → A → A → A
+by old-view a b = a
+by new-view a b = b
+
+-- Which view router i uses if it is the n-th that decides, counted from 0: chosen by anyone.
+abbrev pub Choice : Type 0
+Choice = ℕ → ℕ → View
+
+-- byte n of a view list: 0 old, 1 new
+unfoldable pub listed : List ℕ → Choice
+listed views i n = pick (byte views n =? 1) new-view old-view
+
+-- ---- the answer
+
+pub data Outcome : Type 0 where
+  delivered discarded unrouted lost : Outcome
+
+abbrev pub outcome-code : Outcome → ℕ
+outcome-code delivered = 128
+outcome-code discarded = 129
+outcome-code unrouted = 130
+outcome-code lost = 132
+
+-- how and at which router the packet ended, the links really crossed, and the visited routers in order
+pub record Trip : Type 0 where
+  pub outcome : Outcome
+  pub router : ℕ
+  pub hops : ℕ
+  pub trace : List ℕ
+
+abbrev pub ended : Outcome → ℕ → Trip
+ended o i = record { outcome = o; router = i; hops = 0; trace = i ∷ [] }
+
+abbrev pub crossed : ℕ → Trip → Trip
+crossed i onward = record { outcome = onward .outcome; router = onward .router; hops = suc (onward .hops); trace = i ∷ onward .trace }
+
+-- ---- arriving and leaving
+
+-- what a packet for d meets: the ways of the two views, and the links that carry packets
+pub record Site : Type 0 where
+  pub destination : ℕ
+  pub ways : View → Ways
+  pub carries : ℕ → ℕ → Bool
+
+-- leaving router i over its link to k: a link that does not carry loses the packet; `onward` is what happens from k on
+abbrev pub leave : Site → ℕ → ℕ → Trip → Trip
+leave site i k onward = pick (site .carries i k) (crossed i onward) (ended lost i)
+
+-- arriving at router i: its entry is applied; `out` is leaving for a hop
+abbrev pub arrive : ℕ → (ℕ → Trip) → Entry → Trip
+arrive i out deliver = ended delivered i
+arrive i out discard = ended discarded i
+arrive i out no-route = ended unrouted i
+arrive i out (forward k) = out k
+
+-- The packet stands at router i, came from j, and n routers have decided. `left` bounds the hops: with no hop left nothing is crossed, which the
+-- theorems show is never met.
+unfoldable pub follow : Site → Choice → ℕ → ℕ → ℕ → ℕ → Trip
+follow site choice zero n j i = arrive i (λ k. ended lost i) (entry-by (site .ways (choice i n)) i j (site .destination))
+follow site choice (suc left) n j i =
+    arrive i (λ k. leave site i k (follow site choice left (suc n) i k)) (entry-by (site .ways (choice i n)) i j (site .destination))
+
+-- ---- the base
+
+-- each view is a table, and the real links are those of the new table
+unfoldable pub site-of : Table → Table → ℕ → Site
+site-of old new d = record { destination = d; ways = λ v. ways (by v old new) d; carries = λ i k. 0 <? weight new i k }
+
+-- the packet from s to d: N − 1 hops are enough
+unfoldable pub path : Table → Table → Choice → ℕ → ℕ → Trip
+path old new choice s d = follow (site-of old new d) choice (new .routers - 1) 0 starts-here s

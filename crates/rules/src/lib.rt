@@ -1,0 +1,1 @@
+// Document 01 as definitions, and what is proved of them: no function.
