@@ -2,20 +2,20 @@
 -- Assumes nothing.
 use mathlib.Core.Path.{_≡_, refl, sym, _∙_, ap}
 use mathlib.Core.Logic.{_≢_, _⊎_, inl, inr}
-use mathlib.Core.Bool.{Bool, true, false, false≢true}
-use mathlib.Core.List.{List, [], _∷_}
-use Prim.Native.Nat.{ℕ, suc, _+_, _-_, _≤_, _<_}
+use mathlib.Core.Bool.{true, false, false≢true}
+use mathlib.Core.List.{List, _∷_}
+use Prim.Native.Nat.{ℕ, _+_, _-_, _≤_, _<_}
 use native.Mathlib.Decide.{decLt}
 use native.Mathlib.Omega.{arith}
-use borrow.Author.Tests.{ltb-true, ltb-false, lt-ltb}
+use borrow.Author.Tests.{ltb-true, lt-ltb}
 use Rattle.rules.specs.Table.{Table}
 use Rattle.rules.specs.Links.{weight}
-use Rattle.rules.specs.Routes.{no-cost, cost}
+use Rattle.rules.specs.Costs.{no-cost, cost}
 use Rattle.rules.specs.NextHops.{has, next-hops}
-use Rattle.rules.specs.Entries.{Entry, discard, no-route, forward, entry-by, starts-here}
-use Rattle.rules.specs.Paths.{new-view, Choice, Outcome, outcome-code, delivered, discarded, unrouted, lost, Trip, ended, Site}
-use Rattle.rules.specs.Demands.{Follows, delivers, discards, has-none, loses, crosses, Together, Permitted, Willing, total, deciders, decisions, Delivered, AllNew}
-use Rattle.rules.proofs.CostLaws.{Next, Costs}
+use Rattle.rules.specs.Entries.{Entry, discard, no-route, forward, starts-here}
+use Rattle.rules.specs.Paths.{new-view, Choice, outcome-code, delivered, unrouted, Trip, ended, Site}
+use Rattle.rules.specs.Demands.{Follows, delivers, discards, has-none, loses, crosses, Together, Permitted, Willing, total, decisions, Delivered, AllNew}
+use Rattle.rules.proofs.CostLaws.{Next}
 use Rattle.rules.proofs.Sets.{has-next}
 use Rattle.rules.proofs.Entries.{Enters, at-home, cut-off, drops, sends, entered, delivers-home}
 use Rattle.rules.proofs.LoopFree.{entry-at, deciders-suc, begins, one-trip, laws}

@@ -1,21 +1,21 @@
 -- Demand 3 for two accepted byte strings, and for the path question that is not refused.
 -- Assumes nothing.
-use mathlib.Core.Path.{_≡_, refl, sym, _∙_, ap}
+use mathlib.Core.Path.{_≡_, refl, _∙_, ap}
 use mathlib.Core.Logic.{_≢_}
-use mathlib.Core.Bool.{Bool, true, false, _||_, not}
+use mathlib.Core.Bool.{Bool, true, false, not}
 use mathlib.Core.List.{List, [], _∷_, _++_}
-use Prim.Native.Nat.{ℕ, suc, _+_, _-_, _≤_, _<_}
+use Prim.Native.Nat.{ℕ, _-_, _≤_, _<_}
 use native.Mathlib.Omega.{arith}
 use lib.Dec.{eqb, ltb, leb}
 use lib.ListN.{length, take, drop, length-append, length-drop}
-use borrow.Author.Tests.{ltb-true, ltb-false, leb-true, leb-false, eqb-true, eq-eqb, not-false}
-use Rattle.rules.specs.Words.{pick, Line, _when_, first_otherwise_, every, All}
-use Rattle.rules.specs.Table.{read, number-of, says}
-use Rattle.rules.specs.Links.{differing, too-different}
-use Rattle.rules.specs.Paths.{Choice, listed, Trip, path}
-use Rattle.rules.specs.Questions.{Refusal, refusal, bad-table, Answer, answer, afterwards, path-refusals, bad-views, trip-of, following, ending, traced}
-use Rattle.rules.specs.Demands.{Together, AcceptedTogether, Demand3OfBase, Demand3ForAccepted, decisions, Demand3Answered, Demand3ForQuestions}
-use Rattle.rules.proofs.Basics.{pick-t, both, neither, every-true}
+use borrow.Author.Tests.{ltb-true, ltb-false, leb-true, leb-false, eqb-true, not-false}
+use Rattle.rules.specs.Words.{pick, Line, first_otherwise_, All}
+use Rattle.rules.specs.Table.{Table, read, number-of, says}
+use Rattle.rules.specs.Pairs.{differing, too-different}
+use Rattle.rules.specs.Paths.{listed, Trip, path}
+use Rattle.rules.specs.Questions.{Refusal, refusal, bad-table, answer, path-refusals, few-views, bad-views, trip-of, following, ending, traced}
+use Rattle.rules.specs.Demands.{Together, AcceptedTogether, Demand3OfBase, Demand3ForAccepted, Demand3ForQuestions}
+use Rattle.rules.proofs.Basics.{neither, every-true}
 use Rattle.rules.proofs.Acceptance.{obeys}
 use Rattle.rules.proofs.Refusals.{gives-values, writes}
 use Rattle.rules.proofs.Demand3.{demand3-of-base}
@@ -67,28 +67,30 @@ refuses old new s d views trace =
     in
     (table old, (table new, (λ e. omega arith, (λ e. omega arith, (λ e. omega arith, (λ e. omega arith, tt))))))
 
+enough-views : (t : Table) (views : List ℕ) → few-views t views ≡ false → t .routers - 1 ≤ length views
+unfolding few-views
+enough-views t views e = omega (arith, ltb-false (length views) _ e)
+
 asked : (old new : List ℕ) (s d : ℕ) (views trace : List ℕ) → following old new s d views trace .refusal .number ≡ 0 → Asked old new s d views trace
 unfolding following answer bad-table too-different bad-views
 asked old new s d views trace e =
-    let t = says new in
     let (r₀, (r₁, (r₂, (r₃, (r₄, (r₅, r₆)))))) = none-applies (path-refusals old new s d views trace) (refuses old new s d views trace) e in
-    let pair = neither (not (eqb (says old .routers) (t .routers))) (ltb 1 (differing (says old) t)) r₂ in
-    let ends = neither (leb (t .routers) s) (leb (t .routers) d) r₃ in
-    let list = neither (ltb (length views) (t .routers - 1)) (not (every (λ v. leb v 1) (take (t .routers - 1) views))) r₄ in
+    let pair = neither (not (eqb (says old .routers) (says new .routers))) _ r₂ in
+    let ends = neither (leb (says new .routers) s) _ r₃ in
+    let list = neither (few-views (says new) views) _ r₄ in
     record {
       accepted = record {
         old-accepted = omega (arith, ltb-false 0 (number-of (read old)) r₀);
         new-accepted = omega (arith, ltb-false 0 (number-of (read new)) r₁);
-        same-routers = eqb-true (says old .routers) (t .routers) (not-false (eqb (says old .routers) (t .routers)) (pair .0));
-        one-link = ltb-false 1 (differing (says old) t) (pair .1);
+        same-routers = eqb-true (says old .routers) (says new .routers) (not-false _ (pair .0));
+        one-link = omega (arith, ltb-false _ (differing (says old) (says new)) (pair .1));
       };
-      from-router = leb-false (t .routers) s (ends .0);
-      to-router = leb-false (t .routers) d (ends .1);
-      listed-all = ltb-false (length views) (t .routers - 1) (list .0);
+      from-router = leb-false (says new .routers) s (ends .0);
+      to-router = leb-false (says new .routers) d (ends .1);
+      listed-all = enough-views (says new) views (list .0);
       listed-good =
-          every-true (λ v. leb v 1) (λ v. v ≤ 1) (λ v q. leb-true v 1 q) (take (t .routers - 1) views)
-          (not-false (every (λ v. leb v 1) (take (t .routers - 1) views)) (list .1));
-      room = ltb-false (length trace) (t .routers) r₅;
+          every-true (λ v. leb v 1) (λ v. v ≤ 1) (λ v q. leb-true v 1 q) (take (says new .routers - 1) views) (not-false _ (list .1));
+      room = ltb-false (length trace) (says new .routers) r₅;
     }
 
 -- what is written, and behind it what was there, is as long as what was lent

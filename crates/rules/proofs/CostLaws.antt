@@ -6,7 +6,7 @@ use Prim.Native.Nat.{ℕ, suc, _+_, _*_, _≤_, _<_}
 use native.Mathlib.Decide.{ℕ-discrete, decLt}
 use native.Mathlib.Omega.{arith}
 use lib.Dec.{ltb}
-use Rattle.rules.specs.Routes.{no-cost}
+use Rattle.rules.specs.Costs.{no-cost}
 use Rattle.rules.proofs.Basics.{strong, under, count-at-most, under-grows}
 
 -- w is the weights of a network of n routers

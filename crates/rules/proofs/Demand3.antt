@@ -1,33 +1,36 @@
 -- Demand 3, for any permitted rules and for the base: lowest member, PIPO, links of the new table.
 -- Assumes nothing.
-use mathlib.Core.Path.{_≡_, refl, sym, _∙_, ap}
+use mathlib.Core.Path.{_≡_, refl}
 use mathlib.Core.Logic.{_≢_}
-use mathlib.Core.Bool.{Bool, true, false, false≢true}
+use mathlib.Core.Bool.{Bool, true, false}
 use mathlib.Core.List.{List, [], _∷_}
-use Prim.Native.Nat.{ℕ, suc, _+_, _-_, _^_, _≤_, _<_}
+use Prim.Native.Nat.{ℕ, _-_, _<_}
+use native.Mathlib.Nat.{zero-add}
 use native.Mathlib.Omega.{arith}
+use lib.ListN.{getD}
 use borrow.Author.Tests.{lt-ltb, ltb-true}
-use Rattle.rules.specs.Words.{_<?_}
 use Rattle.rules.specs.Table.{Table}
 use Rattle.rules.specs.Layout.{Obeys}
 use Rattle.rules.specs.Links.{weight}
-use Rattle.rules.specs.Routes.{no-cost, cost}
+use Rattle.rules.specs.Costs.{no-cost, cost}
 use Rattle.rules.specs.NextHops.{has, chosen, next-hops}
 use Rattle.rules.specs.Entries.{ways, starts-here}
-use Rattle.rules.specs.Paths.{View, new-view, by, Choice, listed, Trip, Site, follow, site-of, path}
-use Rattle.rules.specs.Demands.{Follows, Together, Permitted, Willing, Hops, Loopless, Delivered, AllNew, Demand3ForAnyRules, Demand3OfBase}
-use Rattle.rules.proofs.CostLaws.{Next}
+use Rattle.rules.specs.Paths.{by, Choice, Trip, follow, site-of, path}
+use Rattle.rules.specs.Demands.{Follows, Together, Permitted, Willing, Hops, Loopless, Demand3ForAnyRules, Demand3OfBase}
 use Rattle.rules.proofs.LeastCost.{cost-laws}
 use Rattle.rules.proofs.Sets.{has-below, has-next, sets-fit, chosen-member}
 use Rattle.rules.proofs.LoopFree.{bounded, one-trip, obeys, follows, loopless}
 use Rattle.rules.proofs.AllNew.{delivered-new}
-use Rattle.rules.proofs.ViewLists.{views-of, views-length, views-good, listed-follows}
+use Rattle.rules.proofs.ViewLists.{same-views, views-of, views-length, views-good, listed-follows}
 
 pub demand3-for-any-rules : Demand3ForAnyRules
 demand3-for-any-rules old new s d site choice 𝓣 b h 𝓟 = record {
   loopless = free;
   only = λ trip g. one-trip g f;
   all-new = λ 𝓦 all. delivered-new 𝓣 𝓟 𝓦 choice all s f b h (free .enough);
+  early = λ choice′ same.
+      bounded (same-views site choice choice′ f (λ m l. rw (zero-add m) (same (getD (trip .trace) m starts-here) m (omega (arith, free .enough)))))
+      (new .routers - 1) (omega (arith, free .few));
   some-list = (
     views-of choice (new .routers - 1) (trip .trace),
     views-length choice (new .routers - 1) (trip .trace),
@@ -59,7 +62,7 @@ base-permitted {old} {new} 𝓣 d = record {
   for-d = refl;
   knows = λ v i. refl;
   member = λ v i. base-member (by v old new) (obeys 𝓣 v) i d;
-  drops = λ v i j e. e;
+  drops = λ v i j e. cc;
 }
 
 -- two routers are not each other's next hop

@@ -25,17 +25,18 @@ use Rattle.rules.specs.Table.{
   table-of,
   says,
 }
-use Rattle.rules.specs.Links.{weight-in, differing, too-different}
-use Rattle.rules.specs.Routes.{direct, best, cost}
+use Rattle.rules.specs.Links.{weight-in}
+use Rattle.rules.specs.Pairs.{differing, too-different}
+use Rattle.rules.specs.Costs.{direct, best, cost}
 use Rattle.rules.specs.NextHops.{has, set-of, seek, chosen, leads, next-hops}
 use Rattle.rules.specs.Entries.{entry-by, ways, entry, row, interfaces}
 use Rattle.rules.specs.Paths.{listed, follow, site-of, path}
-use Rattle.rules.specs.Questions.{bad-table, answer, afterwards, reading, interfacing, interfaced, bad-views, trip-of, following, traced}
+use Rattle.rules.specs.Questions.{bad-table, answer, afterwards, reading, interfacing, interfaced, few-views, bad-views, trip-of, following, traced}
 use Rattle.rules.specs.Listing.{digits, joined-by-commas, members, cost-and-next, line, lines, header, refusal-line, listing-lines, listing}
 use Rattle.rules.specs.Examples.{reply, BenchExamples, InterfaceExample, ListingExamples}
 
 pub bench-examples : BenchExamples
-unfolding reply reading following traced bad-views trip-of bad-table answer afterwards read judge judge-from step fault bad-tag known-tag length-allowed contents-fit routers-fit name-fits name-byte link-fits key keep not-above too-many says table-of routers-of those every weight-in tally differing too-different direct best cost has set-of seek chosen leads next-hops entry-by ways listed follow site-of path
+unfolding reply reading following traced few-views bad-views trip-of bad-table answer afterwards read judge judge-from step fault bad-tag known-tag length-allowed contents-fit routers-fit name-fits name-byte link-fits key keep not-above too-many says table-of routers-of those every weight-in tally differing too-different direct best cost has set-of seek chosen leads next-hops entry-by ways listed follow site-of path
 bench-examples = refl
 
 pub interface-example : InterfaceExample

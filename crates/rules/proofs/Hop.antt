@@ -10,7 +10,7 @@ use native.Mathlib.Decide.{ℕ-discrete, decLt}
 use native.Mathlib.Omega.{arith}
 use lib.ListN.{length}
 use Rattle.rules.specs.Words.{All, Distinct}
-use Rattle.rules.specs.Routes.{no-cost}
+use Rattle.rules.specs.Costs.{no-cost}
 use Rattle.rules.specs.Paths.{View, old-view, new-view}
 use Rattle.rules.proofs.Basics.{All-map, pigeonhole}
 use Rattle.rules.proofs.CostLaws.{Net, BothWays, Next, Costs, lower}

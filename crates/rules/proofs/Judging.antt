@@ -1,42 +1,17 @@
 -- Judging as a relation: what held at each record. Every theorem on judging is then an induction over three cases.
 -- Assumes nothing.
-use mathlib.Core.Path.{_≡_, refl, sym, _∙_, ap}
+use mathlib.Core.Path.{_≡_, refl, _∙_, ap}
 use mathlib.Core.Logic.{_≢_}
-use mathlib.Core.Bool.{Bool, true, false, not, false≢true}
+use mathlib.Core.Bool.{Bool, true, false, not}
 use mathlib.Core.List.{List, [], _∷_}
 use Prim.Native.Nat.{ℕ, zero, suc, _+_, _≤_, _<_}
 use native.Mathlib.Decide.{ℕ-discrete}
 use native.Mathlib.Omega.{arith}
-use lib.Dec.{eqb, ltb}
+use lib.Dec.{ltb}
 use lib.ListN.{length, take, drop, length-drop}
-use borrow.Author.Tests.{ltb-true, ltb-false, le-ltb, eq-eqb, ne-eqb, eqb-true, eqb-false, not-true, not-false}
+use borrow.Author.Tests.{ltb-false, le-ltb, eq-eqb, ne-eqb}
 use Rattle.rules.specs.Words.{pick}
-use Rattle.rules.specs.Table.{
-  byte,
-  two-bytes,
-  tag-end,
-  Record,
-  Kept,
-  nothing-kept,
-  keep,
-  bad-tag,
-  length-allowed,
-  contents-fit,
-  not-above,
-  too-many,
-  record-in,
-  fault,
-  Step,
-  good,
-  bad,
-  step,
-  Judged,
-  accepted,
-  refused,
-  behind,
-  judge-from,
-  judge,
-}
+use Rattle.rules.specs.Table.{byte, two-bytes, tag-end, Kept, nothing-kept, keep, bad-tag, length-allowed, contents-fit, not-above, too-many, record-in, fault, good, bad, step, Judged, accepted, refused, behind, judge-from, judge}
 use Rattle.rules.proofs.Basics.{pick-t, pick-f}
 
 -- ---- one record

@@ -3,7 +3,7 @@
 use mathlib.Core.Path.{_≡_, refl}
 use mathlib.Core.Logic.{_≢_}
 use mathlib.Core.Bool.{Bool, true, false}
-use Prim.Native.Nat.{ℕ, zero, suc, _+_, _*_, _≤_, _<_, min}
+use Prim.Native.Nat.{ℕ, zero, suc, _+_, _≤_, _<_, min}
 use native.Mathlib.Nat.{zero-add, add-zero, add-assoc, add-comm, le-antisymm, min-eq-left, min-eq-right, le-of-lt, lt-of-not-le}
 use native.Mathlib.Decide.{ℕ-discrete, decLe, decLt}
 use native.Mathlib.Omega.{arith}
@@ -13,8 +13,9 @@ use Rattle.rules.specs.Words.{pick}
 use Rattle.rules.specs.Table.{Table}
 use Rattle.rules.specs.Layout.{Obeys}
 use Rattle.rules.specs.Links.{weight}
-use Rattle.rules.specs.Routes.{Route, arrived, via, LeastCost, least, none, no-cost, direct, best, cost}
-use Rattle.rules.specs.Demands.{CostsAreLeast, OneLeastCost, RealCostsAreSmall, CostsHoldBothWays, Certified, CertifiedIsCost}
+use Rattle.rules.specs.Routes.{Route, arrived, via}
+use Rattle.rules.specs.Costs.{LeastCost, least, none, no-cost, direct, best, cost}
+use Rattle.rules.specs.Demands.{CostsAreLeast, OneLeastCost, RealCostsAreSmall, CostsHoldBothWays, CertifiedIsCost}
 use Rattle.rules.proofs.CostLaws.{Net, BothWays, Costs, Next, at-most, near}
 use Rattle.rules.proofs.Weights.{net, both-ways}
 

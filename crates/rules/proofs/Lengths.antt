@@ -4,41 +4,16 @@ use mathlib.Core.Path.{_≡_, refl, sym, _∙_, ap, subst}
 use mathlib.Core.Logic.{_≢_}
 use mathlib.Core.Bool.{Bool, true, false}
 use mathlib.Core.List.{List, [], _∷_}
-use Prim.Native.Nat.{ℕ, zero, suc, _+_, _-_, _*_, _≤_, _<_, min}
-use native.Mathlib.Nat.{sub-zero, zero-sub, suc-sub-suc}
+use Prim.Native.Nat.{ℕ, suc, _+_, _-_, _*_, _≤_, _<_, min}
 use native.Mathlib.Omega.{arith}
 use lib.Dec.{ltb}
 use lib.ListN.{length, take, drop, length-take}
-use lib.Seq.{getD-take, take-take, take-nil}
+use lib.Seq.{getD-take, take-take}
 use borrow.Author.Tests.{ltb-true, ltb-false, eqb-true, lt-ltb, le-ltb}
 use Rattle.rules.specs.Words.{pick}
-use Rattle.rules.specs.Table.{
-  byte,
-  Name,
-  tag-routers,
-  tag-name,
-  tag-link,
-  tag-end,
-  name-of,
-  length-allowed,
-  key,
-  Record,
-  Kept,
-  nothing-kept,
-  keep,
-  record-in,
-  fault,
-  Judged,
-  accepted,
-  refused,
-  behind,
-  judge,
-  nothing-behind,
-  read,
-  number-of,
-  place-of,
-}
+use Rattle.rules.specs.Table.{byte, Name, tag-routers, tag-name, tag-link, tag-end, name-of, length-allowed, key, Record, Kept, keep, record-in, fault, Judged, accepted, refused, behind, judge, nothing-behind, read, number-of, place-of}
 use Rattle.rules.specs.Demands.{Lengths}
+use Rattle.rules.proofs.Basics.{drop-take}
 use Rattle.rules.proofs.Judging.{size-in, contents-in, Good, fault-good, good-fault, Judges, stops, ends, goes, judged, judge-judges}
 use Rattle.rules.proofs.Records.{
   Known,
@@ -130,12 +105,6 @@ judged-within {kept} {place} {left} (goes {j = j} g e r) n = go j (judged-within
     go (refused number place) h = h
 
 -- ---- the cut
-
-drop-take : (n m : ℕ) (l : List ℕ) → drop n (take m l) ≡ take (m - n) (drop n l)
-drop-take zero m l = rw (sub-zero m)
-drop-take (suc n) zero l = rw (zero-sub (suc n))
-drop-take (suc n) (suc m) [] = sym (take-nil (suc m - suc n))
-drop-take (suc n) (suc m) (x ∷ xs) = rw (suc-sub-suc m n) (drop-take n m xs)
 
 -- two orders that hold together are tested alike
 ltb-same : (a b c d : ℕ) → (c < d → a < b) → (d ≤ c → b ≤ a) → ltb a b ≡ ltb c d

@@ -5,6 +5,7 @@ pub mod Reading
 pub mod Acceptance
 pub mod Lengths
 pub mod Refusals
+pub mod Names
 pub mod CostLaws
 pub mod Weights
 pub mod LeastCost

@@ -12,8 +12,8 @@ use Rattle.rules.specs.Words.{pick, All, Distinct}
 use Rattle.rules.specs.Table.{Table}
 use Rattle.rules.specs.Layout.{Obeys}
 use Rattle.rules.specs.Links.{weight}
-use Rattle.rules.specs.Routes.{no-cost, cost}
-use Rattle.rules.specs.Entries.{Entry, deliver, discard, no-route, forward, Ways, entry-by, starts-here}
+use Rattle.rules.specs.Costs.{no-cost, cost}
+use Rattle.rules.specs.Entries.{Entry, deliver, discard, no-route, forward, entry-by, starts-here}
 use Rattle.rules.specs.Paths.{
   View,
   old-view,
@@ -40,8 +40,8 @@ use Rattle.rules.proofs.CostLaws.{Net, BothWays, Costs}
 use Rattle.rules.proofs.Weights.{net, both-ways}
 use Rattle.rules.proofs.LeastCost.{cost-laws}
 use Rattle.rules.proofs.Sets.{has-next}
-use Rattle.rules.proofs.Entries.{Enters, at-home, cut-off, drops, sends, enters, entered, away}
-use Rattle.rules.proofs.OneChange.{OneChange, one-change}
+use Rattle.rules.proofs.Entries.{Enters, sends, entered, away}
+use Rattle.rules.proofs.OneChange.{one-change}
 use Rattle.rules.proofs.Hop.{Sends, Trail, stays, goes, no-router-twice, trail-inside, trail-short}
 
 -- what a packet for d meets at router i, the n-th that decides, coming from j

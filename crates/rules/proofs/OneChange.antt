@@ -11,7 +11,8 @@ use lib.Dec.{eqb}
 use borrow.Author.Tests.{eq-eqb, ne-eqb}
 use Rattle.rules.specs.Words.{pick, tally, All}
 use Rattle.rules.specs.Table.{Link, Table}
-use Rattle.rules.specs.Links.{joins, weight-in, weight, differing}
+use Rattle.rules.specs.Links.{joins, weight-in, weight}
+use Rattle.rules.specs.Pairs.{differing}
 use Rattle.rules.specs.Demands.{Together}
 use Rattle.rules.proofs.Weights.{SameEnds, ends-of, weight-both-ways, own}
 
@@ -108,7 +109,7 @@ module _ {old new : Table} (𝓣 : Together old new) where
 
   pub one-change : OneChange (weight old) (weight new)
   unfolding differing changed added
-  one-change i k a b p q = go (𝓣 .one-link) (counted i k p) (counted a b q)
+  one-change i k a b p q = go (omega (arith, 𝓣 .one-link)) (counted i k p) (counted a b q)
     where
       go : tally changed (old .links) + tally added (new .links) ≤ 1 → Counted i k → Counted a b → SameEnds a b i k
       go h (inl (g, s)) (inl (f, t)) =

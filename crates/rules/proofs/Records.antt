@@ -223,8 +223,8 @@ pub fine-routers : (kept : Kept) (contents : List ℕ) → Fine kept tag-routers
     → (contents ≡ byte contents 0 ∷ []) × (1 ≤ byte contents 0) × (byte contents 0 ≤ 64)
 unfolding length-allowed contents-fit routers-fit
 fine-routers kept contents f =
-    let (some, few) = both (leb 1 (byte contents 0)) (leb (byte contents 0) 64) (f .fits) in
-    (last-byte contents 0 (eqb-true (length contents) 1 (f .sized)), leb-true 1 (byte contents 0) some, leb-true (byte contents 0) 64 few)
+    let (some, few) = both (leb 1 (byte contents 0)) _ (f .fits) in
+    (last-byte contents 0 (eqb-true (length contents) 1 (f .sized)), leb-true 1 (byte contents 0) some, omega (arith, leb-true (byte contents 0) _ few))
 
 pub routers-fine : (kept : Kept) (n : ℕ) → kept .tag ≡ 0 → 1 ≤ n → n ≤ 64 → Fine kept tag-routers (n ∷ [])
 unfolding length-allowed contents-fit routers-fit too-many

@@ -32,7 +32,7 @@ use Rattle.rules.specs.Table.{
   number-of,
   place-of,
 }
-use Rattle.rules.specs.Links.{differing, too-different}
+use Rattle.rules.specs.Pairs.{differing, too-different}
 use Rattle.rules.specs.Questions.{
   Refusal,
   refusal,

@@ -1,26 +1,26 @@
 -- Sets of routers as numbers: their bits, their lowest member, their size; and what the next-hop set of a table holds.
 -- Assumes nothing.
 use mathlib.Core.Path.{_≡_, refl, sym, _∙_, ap}
-use mathlib.Core.Logic.{_≢_, _⊎_, inl, inr, _↔_}
-use mathlib.Core.Bool.{Bool, true, false, _&&_, false≢true}
+use mathlib.Core.Logic.{_⊎_, inl, inr, _↔_}
+use mathlib.Core.Bool.{Bool, true, false, false≢true}
 use Prim.Native.Nat.{ℕ, zero, suc, _+_, _-_, _*_, _/_, _%_, _^_, _≤_, _<_}
-use native.Mathlib.Nat.{add-zero, zero-add, mod-eq-of-lt, div-eq-of-lt, lt-of-lt-of-le, div-one, pow-succ', div-div-eq-div-mul}
+use native.Mathlib.Nat.{add-zero, zero-add, mod-eq-of-lt, div-eq-of-lt, lt-of-lt-of-le, div-one}
 use native.Mathlib.Decide.{ℕ-discrete, decLt}
 use native.Mathlib.Omega.{arith}
 use lib.Dec.{eqb, ltb}
 use lib.Count as C
 use lib.Count.{ones, trailingZeros, onesIn, ones-cat}
 use lib.Pow.{pow-mono, shr-shr, high, low, mod-pow-add, mod-mod-pow, field}
-use borrow.Author.Tests.{eqb-true, eq-eqb, ne-eqb, ltb-true, lt-ltb}
+use borrow.Author.Tests.{eqb-true, eq-eqb, ltb-true, lt-ltb}
 use Rattle.rules.specs.Words.{pick, count}
 use Rattle.rules.specs.Table.{Table}
 use Rattle.rules.specs.Layout.{Obeys}
 use Rattle.rules.specs.Links.{weight}
-use Rattle.rules.specs.Routes.{no-cost, cost}
+use Rattle.rules.specs.Costs.{no-cost, cost}
 use Rattle.rules.specs.NextHops.{has, set-of, seek, chosen, size, leads, next-hops}
-use Rattle.rules.specs.Demands.{SetsHaveNeighbours, EmptySets, SetsFit, Choosing, ChosenByBits}
+use Rattle.rules.specs.Demands.{SetsHaveNeighbours, EmptySets, SetsFit, ChosenByBits}
 use Rattle.rules.proofs.Basics.{both}
-use Rattle.rules.proofs.CostLaws.{Net, Next, Costs, next-finite}
+use Rattle.rules.proofs.CostLaws.{Next, Costs, next-finite}
 use Rattle.rules.proofs.Weights.{net}
 use Rattle.rules.proofs.LeastCost.{cost-laws}
 

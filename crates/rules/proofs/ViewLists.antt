@@ -1,8 +1,8 @@
 -- For every choice of view by router and decision number, some list of N − 1 bytes gives the same path.
 -- Assumes nothing.
-use mathlib.Core.Path.{_≡_, refl, sym, _∙_, ap}
-use mathlib.Core.List.{List, [], _∷_, map}
-use Prim.Native.Nat.{ℕ, suc, _+_, _-_, _≤_, _<_}
+use mathlib.Core.Path.{_≡_, refl, _∙_, ap}
+use mathlib.Core.List.{List, map}
+use Prim.Native.Nat.{ℕ, suc, _+_, _≤_, _<_}
 use native.Mathlib.Nat.{add-zero, zero-add}
 use native.Mathlib.Omega.{arith}
 use lib.Dec.{eqb}
@@ -10,7 +10,7 @@ use lib.ListN.{length, getD}
 use Rattle.rules.specs.Words.{pick, All, below}
 use Rattle.rules.specs.Entries.{Entry, entry-by, starts-here}
 use Rattle.rules.specs.Paths.{View, old-view, new-view, Choice, listed, Trip, Site}
-use Rattle.rules.specs.Demands.{Follows, delivers, discards, has-none, loses, crosses, deciders, decisions}
+use Rattle.rules.specs.Demands.{Follows, delivers, discards, has-none, loses, crosses, decisions}
 use Rattle.rules.proofs.Basics.{length-values, value-at, All-values}
 use Rattle.rules.proofs.Entries.{home-delivers, delivers-home}
 use Rattle.rules.proofs.LoopFree.{entry-at, deciders-suc}
@@ -27,7 +27,7 @@ module _ (site : Site) (choice choice′ : Choice) where
       let e′ : choice′ i n ≡ choice i n = rw (add-zero n) at e in
       ap (λ v. entry-by (site .ways v) i j (site .destination)) e′ ∙ q
 
-  same-views : {n j i : ℕ} {trip : Trip} → Follows site choice n j i trip → Agree n trip → Follows site choice′ n j i trip
+  pub same-views : {n j i : ℕ} {trip : Trip} → Follows site choice n j i trip → Agree n trip → Follows site choice′ n j i trip
   same-views (delivers {n} {j} {i} e) a =
       delivers (home-delivers (site .ways (choice′ i n)) i j (site .destination) (delivers-home (site .ways (choice i n)) i j (site .destination) e))
   same-views (discards {n} {j} {i} e) a = discards (alike n j i e (a 0 (omega arith)))

@@ -4,7 +4,7 @@ use mathlib.Core.Path.{_≡_, refl}
 use mathlib.Core.List.{List, [], _∷_, map}
 use mathlib.Core.Bool.{Bool, true, false, _&&_, _||_, or-comm, false≢true}
 use mathlib.Core.Logic.{_⊎_, inl, inr}
-use Prim.Native.Nat.{ℕ, _+_, _*_, _≤_, _<_}
+use Prim.Native.Nat.{ℕ, _≤_, _<_}
 use native.Mathlib.Omega.{arith}
 use lib.Dec.{eqb}
 use borrow.Author.Tests.{eqb-true, eq-eqb}
@@ -12,7 +12,7 @@ use Rattle.rules.specs.Words.{pick, All, Rising}
 use Rattle.rules.specs.Table.{Link, Table}
 use Rattle.rules.specs.Layout.{LinkFits, pair, Obeys}
 use Rattle.rules.specs.Links.{joins, weight-in, weight}
-use Rattle.rules.proofs.Basics.{All-zip, pick-f}
+use Rattle.rules.proofs.Basics.{All-zip}
 use Rattle.rules.proofs.CostLaws.{Net, BothWays}
 
 -- the same two ends, one way round or the other

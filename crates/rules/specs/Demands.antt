@@ -1,38 +1,22 @@
 -- What the three demands say, as statements. Each is proved in the file of `proofs/` that its heading names.
 use mathlib.Core.Path.{_≡_}
 use mathlib.Core.Logic.{_≢_, _⊎_, _↔_}
-use mathlib.Core.Bool.{Bool, true, false}
+use mathlib.Core.Bool.{true, false}
 use mathlib.Core.List.{List, [], _∷_, _++_, List·Memᴰ}
-use Prim.Native.Nat.{ℕ, zero, suc, _+_, _-_, _*_, _^_, _≤_, _<_}
+use Prim.Native.Nat.{ℕ, suc, _+_, _-_, _*_, _^_, _≤_, _<_}
 use lib.ListN.{length, getD, take, drop}
 use lib.Count.{ones, trailingZeros}
-use Rattle.rules.specs.Words.{_<?_, pick, All, Distinct}
-use Rattle.rules.specs.Table.{Table, Name, Judged, refused, read, number-of, place-of, says}
+use Rattle.rules.specs.Words.{_<?_, All, Distinct}
+use Rattle.rules.specs.Table.{Table, Name, refused, read, number-of, place-of, says}
 use Rattle.rules.specs.Layout.{Bytes, Obeys, written}
-use Rattle.rules.specs.Links.{weight, differing, too-different}
-use Rattle.rules.specs.Routes.{Route, LeastCost, no-cost, cost}
+use Rattle.rules.specs.Links.{weight}
+use Rattle.rules.specs.Pairs.{differing, too-different}
+use Rattle.rules.specs.Routes.{Route}
+use Rattle.rules.specs.Costs.{LeastCost, no-cost, cost}
 use Rattle.rules.specs.NextHops.{has, chosen, size, next-hops}
-use Rattle.rules.specs.Entries.{Entry, deliver, discard, no-route, forward, Ways, entry-by, starts-here}
-use Rattle.rules.specs.Paths.{View, old-view, new-view, by, Choice, listed, Outcome, delivered, discarded, unrouted, lost, Trip, ended, crossed, Site, follow, site-of, path}
-use Rattle.rules.specs.Questions.{
-  Refusal,
-  Answer,
-  reading,
-  pairing,
-  filling,
-  filled-costs,
-  filled-sets,
-  entering,
-  interfacing,
-  interfaced,
-  following,
-  ending,
-  traced,
-  trip-of,
-  bad-views,
-  naming,
-  naming-of-two,
-}
+use Rattle.rules.specs.Entries.{deliver, discard, no-route, forward, entry-by, starts-here}
+use Rattle.rules.specs.Paths.{View, new-view, by, Choice, listed, Outcome, delivered, discarded, unrouted, lost, Trip, ended, crossed, Site, follow, site-of, path}
+use Rattle.rules.specs.Questions.{Answer, reading, pairing, filling, filled-costs, filled-sets, entering, interfacing, interfaced, following, ending, traced, trip-of, naming, naming-of-two}
 
 -- ==== Demand 1: each question is answered or refused by a listed number, and a refusal changes no lent memory
 
@@ -108,6 +92,12 @@ pub record Lengths (bytes : List ℕ) : Type 0 where
   -- the first 4,096 bytes of a longer input are refused with the same number and place
   pub same-reading : read (take 4096 bytes) ≡ read bytes
 
+-- ---- names (proofs/Names)
+
+-- a name's place and size are those of the very bytes inside the table
+abbrev pub NamesStand : Type 0
+NamesStand = (bytes : List ℕ) → All (λ m. take (length (m .bytes)) (drop (m .place) bytes) ≡ m .bytes) (says bytes .names)
+
 -- ==== Demand 2: costs and sets are those of the rules
 
 -- ---- least cost (proofs/LeastCost)
@@ -154,7 +144,7 @@ abbrev pub SetsFit : Type 0
 SetsFit = (t : Table) → Obeys t → (i d : ℕ) → next-hops t i d < 2 ^ 64
 
 -- the chosen hop is the lowest member, by trailing zeros, and the size the count of ones; an empty set answers 255 and 0
-pub record Choosing (set : ℕ) : Type 0 where
+pub record ByBits (set : ℕ) : Type 0 where
   pub member : 0 < set → has set (chosen set) ≡ true
   pub lowest : (k : ℕ) → has set k ≡ true → chosen set ≤ k
   pub by-zeros : 0 < set → chosen set ≡ trailingZeros 64 set
@@ -162,7 +152,7 @@ pub record Choosing (set : ℕ) : Type 0 where
   pub empty : set ≡ 0 → (chosen set ≡ 255) × (size set ≡ 0)
 
 abbrev pub ChosenByBits : Type 0
-ChosenByBits = (set : ℕ) → set < 2 ^ 64 → Choosing set
+ChosenByBits = (set : ℕ) → set < 2 ^ 64 → ByBits set
 
 -- ==== Demand 3: no router twice, whatever the views
 
@@ -257,6 +247,9 @@ pub record Demand3 (old new : Table) (s d : ℕ) (site : Site) (choice : Choice)
   pub loopless : Loopless (new .routers) s site choice (follow site choice (new .routers - 1) 0 starts-here s)
   pub only : (trip : Trip) → Follows site choice 0 starts-here s trip → trip ≡ follow site choice (new .routers - 1) 0 starts-here s
   pub all-new : Willing new d site → AllNew (new .routers) choice → Delivered new s d (follow site choice (new .routers - 1) 0 starts-here s)
+  -- N − 1 views are enough: no later choice is ever asked for
+  pub early : (choice′ : Choice) → ((i n : ℕ) → n < new .routers - 1 → choice′ i n ≡ choice i n)
+      → follow site choice′ (new .routers - 1) 0 starts-here s ≡ follow site choice (new .routers - 1) 0 starts-here s
   -- some list of N − 1 bytes, each 0 or 1, gives the same path
   pub some-list : (views : List ℕ)
       × (length views ≡ new .routers - 1)

@@ -2,9 +2,9 @@
 use mathlib.Core.Bool.{Bool, not}
 use mathlib.Core.List.{List, [], _∷_, map, flatten}
 use Prim.Native.Nat.{ℕ}
-use Rattle.rules.specs.Words.{_=?_, _<?_, pick, Line, _when_, first_otherwise_, below}
+use Rattle.rules.specs.Words.{_=?_, _<?_, pick, _when_, first_otherwise_, below}
 use Rattle.rules.specs.Table.{Table}
-use Rattle.rules.specs.Routes.{cost, no-cost}
+use Rattle.rules.specs.Costs.{cost, no-cost}
 use Rattle.rules.specs.NextHops.{has, chosen, next-hops}
 
 pub data Entry : Type 0 where

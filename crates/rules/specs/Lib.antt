@@ -2,7 +2,9 @@ pub mod Words
 pub mod Table
 pub mod Layout
 pub mod Links
+pub mod Pairs
 pub mod Routes
+pub mod Costs
 pub mod NextHops
 pub mod Entries
 pub mod Paths

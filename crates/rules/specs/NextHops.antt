@@ -4,7 +4,7 @@ use Prim.Native.Nat.{ℕ, zero, suc, _+_, _/_, _%_, _^_}
 use Rattle.rules.specs.Words.{_=?_, _<?_, pick, count}
 use Rattle.rules.specs.Table.{Table}
 use Rattle.rules.specs.Links.{weight}
-use Rattle.rules.specs.Routes.{cost}
+use Rattle.rules.specs.Costs.{cost}
 
 -- ---- sets of routers as numbers, bit k for router k
 

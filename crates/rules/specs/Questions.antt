@@ -2,15 +2,15 @@
 use mathlib.Core.Bool.{Bool, _&&_, _||_, not}
 use mathlib.Core.List.{List, [], _∷_, _++_, map}
 use mathlib.Core.Option.{Option}
-use Prim.Native.Nat.{ℕ, suc, _+_, _-_, _*_}
+use Prim.Native.Nat.{ℕ, _+_, _-_, _*_}
 use lib.ListN.{length, take, drop, getD}
 use Rattle.rules.specs.Words.{_=?_, _<?_, _≤?_, pick, Line, _when_, first_otherwise_, every, below}
 use Rattle.rules.specs.Table.{Table, Name, Link, read, number-of, place-of, says}
-use Rattle.rules.specs.Links.{differing, too-different}
-use Rattle.rules.specs.Routes.{cost}
+use Rattle.rules.specs.Pairs.{differing, too-different}
+use Rattle.rules.specs.Costs.{cost}
 use Rattle.rules.specs.NextHops.{next-hops, chosen, size}
 use Rattle.rules.specs.Entries.{entry, code, interfaces, starts-here}
-use Rattle.rules.specs.Paths.{Trip, Choice, listed, outcome-code, path}
+use Rattle.rules.specs.Paths.{Trip, listed, outcome-code, path}
 use Rattle.rules.specs.Names.{Part, name-in, part-or, empty-part, named, or-else}
 
 -- ---- refusals and answers
@@ -129,8 +129,11 @@ abbrev pub ending : Trip → Ending
 ending trip = record { router = trip .router; hops = trip .hops; outcome = outcome-code (trip .outcome) }
 
 -- 11: a view list shorter than N − 1, or a byte other than 0 and 1 among its first N − 1
+unfoldable pub few-views : Table → List ℕ → Bool
+few-views t views = length views <? t .routers - 1
+
 unfoldable pub bad-views : Table → List ℕ → Bool
-bad-views t views = length views <? t .routers - 1 || not (every (λ v. v ≤? 1) (take (t .routers - 1) views))
+bad-views t views = few-views t views || not (every (λ v. v ≤? 1) (take (t .routers - 1) views))
 
 unfoldable pub trip-of : List ℕ → List ℕ → ℕ → ℕ → List ℕ → Trip
 trip-of old new s d views = path (says old) (says new) (listed views) s d

@@ -3,7 +3,7 @@ use mathlib.Core.Bool.{Bool, true, false, _&&_, _||_, not}
 use mathlib.Core.List.{List, [], _∷_, map}
 use Prim.Native.Nat.{ℕ, zero, suc, _+_, _*_}
 use lib.ListN.{length, getD, take, drop}
-use Rattle.rules.specs.Words.{_=?_, _<?_, _≤?_, pick, Line, _when_, first_otherwise_, every, those}
+use Rattle.rules.specs.Words.{_=?_, _<?_, _≤?_, pick, _when_, first_otherwise_, every, those}
 
 -- the byte at place k, and the two bytes from there on, high byte first; 0 stands for what is not there
 abbrev pub byte : List ℕ → ℕ → ℕ

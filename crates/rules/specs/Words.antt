@@ -1,5 +1,4 @@
 -- The words that the other files are written in: tests, the first line that applies, lists of numbers, texts.
-use mathlib.Core.Path.{_≡_}
 use mathlib.Core.Logic.{_≢_}
 use mathlib.Core.Bool.{Bool, true, false, _&&_}
 use mathlib.Core.List.{List, [], _∷_, _++_}

@@ -1,0 +1,75 @@
+-- The names that a table says stand in it: their places and sizes are those of the very bytes.
+-- Assumes nothing.
+use mathlib.Core.Path.{_≡_, refl, sym, _∙_, ap}
+use mathlib.Core.Bool.{Bool, true, false}
+use mathlib.Core.List.{List, [], _∷_, map}
+use Prim.Native.Nat.{ℕ, _+_, _-_}
+use native.Mathlib.Omega.{arith}
+use lib.Dec.{ltb}
+use lib.ListN.{length, take, drop, length-drop}
+use lib.Seq.{drop-drop}
+use Rattle.rules.specs.Words.{pick, those, All}
+use Rattle.rules.specs.Table.{Record, Kept, name-of, record-in, Judged, accepted, refused, behind, judge, nothing-behind, read, records-of, table-of, says}
+use Rattle.rules.specs.Demands.{NamesStand}
+use Rattle.rules.proofs.Basics.{drop-take}
+use Rattle.rules.proofs.Judging.{size-in, Good, Judges, stops, ends, goes, judge-judges}
+use Rattle.rules.proofs.Records.{length-contents}
+
+module _ (bytes : List ℕ) where
+  -- the contents of a record stand behind its header
+  abbrev Stands : Record → Type 0
+  Stands r = take (length (r .contents)) (drop (r .place + 3) bytes) ≡ r .contents
+
+  stands : (kept : Kept) (place : ℕ) (left : List ℕ) → Good kept left → left ≡ drop place bytes → Stands (record-in place left)
+  stands kept place left g e =
+      ap (λ n. take n (drop (place + 3) bytes)) (length-contents kept left g)
+      ∙ ap (take (size-in left)) (sym (drop-drop 3 place bytes) ∙ ap (drop 3) (sym e))
+
+  all-stand : {kept : Kept} {place : ℕ} {left : List ℕ} {j : Judged} → Judges kept place left j → left ≡ drop place bytes → All Stands (records-of j)
+  all-stand (stops f) e = tt
+  all-stand {kept} {place} {left} (ends g t) e = (stands kept place left g e, tt)
+  all-stand {kept} {place} {left} (goes {j = j} g t r) e =
+      let further : place + (3 + size-in left) ≡ place + 3 + size-in left = omega arith in
+      go j (all-stand r (ap (drop (3 + size-in left)) e ∙ drop-drop (3 + size-in left) place bytes ∙ ap (λ n. drop n bytes) further))
+    where
+      go : (j : Judged) → All Stands (records-of j) → All Stands (records-of (behind (record-in place left) j))
+      go (accepted rs end) h = (stands kept place left g e, h)
+      go (refused number at) h = tt
+
+  -- a name stands one byte further on
+  name-stands : (r : Record) → Stands r → take (length (name-of r .bytes)) (drop (name-of r .place) bytes) ≡ name-of r .bytes
+  name-stands r h =
+      let n = length (r .contents) in
+      let l : length (drop 1 (r .contents)) ≡ n - 1 = length-drop 1 (r .contents) in
+      let further : r .place + 3 + 1 ≡ r .place + 4 = omega arith in
+      ap (λ m. take m (drop (r .place + 4) bytes)) l
+      ∙ ap (take (n - 1)) (sym (drop-drop 1 (r .place + 3) bytes ∙ ap (λ m. drop m bytes) further))
+      ∙ sym (drop-take 1 n (drop (r .place + 3) bytes))
+      ∙ ap (drop 1) h
+
+  names-of-those : (p : Record → Bool) (rs : List Record) → All Stands rs
+      → All (λ m. take (length (m .bytes)) (drop (m .place) bytes) ≡ m .bytes) (map name-of (those p rs))
+  unfolding those
+  names-of-those p [] h = tt
+  names-of-those p (r ∷ rs) h = go (p r) (names-of-those p rs (h .1))
+    where
+      go : (t : Bool) → All (λ m. take (length (m .bytes)) (drop (m .place) bytes) ≡ m .bytes) (map name-of (those p rs))
+          → All (λ m. take (length (m .bytes)) (drop (m .place) bytes) ≡ m .bytes) (map name-of (pick t (r ∷ those p rs) (those p rs)))
+      go true ih = (name-stands r (h .0), ih)
+      go false ih = ih
+
+  read-stand : All Stands (records-of (read bytes))
+  unfolding read
+  read-stand = go (judge bytes) (all-stand (judge-judges bytes) refl)
+    where
+      whole : (t : Bool) (rs : List Record) (end : ℕ) → All Stands rs → All Stands (records-of (pick t (refused 7 end) (accepted rs end)))
+      whole true rs end h = tt
+      whole false rs end h = h
+
+      go : (j : Judged) → All Stands (records-of j) → All Stands (records-of (nothing-behind (length bytes) j))
+      go (accepted rs end) h = whole (ltb end (length bytes)) rs end h
+      go (refused number at) h = tt
+
+pub names-stand : NamesStand
+unfolding says table-of
+names-stand bytes = names-of-those bytes _ (records-of (read bytes)) (read-stand bytes)

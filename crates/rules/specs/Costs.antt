@@ -1,0 +1,30 @@
+-- Costs: the document's sentence, and an executable function that is shown to meet it.
+use Prim.Native.Nat.{ℕ, zero, suc, _+_, _≤_, _<_, min}
+use Rattle.rules.specs.Words.{_=?_, pick}
+use Rattle.rules.specs.Table.{Table}
+use Rattle.rules.specs.Links.{weight}
+use Rattle.rules.specs.Routes.{Route}
+
+-- what is written where there is no route
+abbrev pub no-cost : ℕ
+no-cost = 4294967295
+
+-- c is the cost from i to d: the least cost of all routes, and 4294967295 exactly where there is none.
+pub data LeastCost (w : ℕ → ℕ → ℕ) (i d : ℕ) : ℕ → Type 0 where
+  least : {c : ℕ} → Route w d i c → ((e : ℕ) → Route w d i e → c ≤ e) → c < no-cost → LeastCost w i d c
+  none : ((e : ℕ) → ¬ Route w d i e) → LeastCost w i d no-cost
+
+-- ---- an executable cost
+
+-- with no router in between
+unfoldable pub direct : (ℕ → ℕ → ℕ) → ℕ → ℕ → ℕ
+direct w i d = pick (i =? d) 0 (pick (w i d =? 0) no-cost (w i d))
+
+-- with routers below m in between: over router m − 1, or not
+unfoldable pub best : (ℕ → ℕ → ℕ) → ℕ → ℕ → ℕ → ℕ
+best w zero i d = direct w i d
+best w (suc m) i d = min (best w m i d) (best w m i m + best w m m d)
+
+-- cost(i, d)
+unfoldable pub cost : Table → ℕ → ℕ → ℕ
+cost t i d = best (weight t) (t .routers) i d
