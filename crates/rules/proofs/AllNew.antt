@@ -13,12 +13,12 @@ use Rattle.rules.specs.Links.{weight}
 use Rattle.rules.specs.Costs.{no-cost, cost}
 use Rattle.rules.specs.NextHops.{has, next-hops}
 use Rattle.rules.specs.Entries.{Entry, discard, no-route, forward, starts-here}
-use Rattle.rules.specs.Paths.{new-view, Choice, outcome-code, delivered, unrouted, Trip, ended, Site}
+use Rattle.rules.specs.Paths.{new-view, Choice, outcome-code, delivered, unrouted, Trip, ended, Site, entry-at}
 use Rattle.rules.specs.Demands.{Follows, delivers, discards, has-none, loses, crosses, Together, Permitted, Willing, total, decisions, Delivered, AllNew}
 use Rattle.rules.proofs.CostLaws.{Next}
 use Rattle.rules.proofs.Sets.{has-next}
 use Rattle.rules.proofs.Entries.{Enters, at-home, cut-off, drops, sends, entered, delivers-home}
-use Rattle.rules.proofs.LoopFree.{entry-at, deciders-suc, begins, one-trip, laws}
+use Rattle.rules.proofs.LoopFree.{deciders-suc, begins, one-trip, laws}
 
 -- the total weight of one hop more
 total-more : (w : ℕ → ℕ → ℕ) (i k : ℕ) (is ks : List ℕ) → is ≡ k ∷ ks → total w (i ∷ is) ≡ w i k + total w is

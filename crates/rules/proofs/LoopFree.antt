@@ -32,6 +32,7 @@ use Rattle.rules.specs.Paths.{
   Site,
   leave,
   arrive,
+  entry-at,
   follow,
 }
 use Rattle.rules.specs.Demands.{Follows, delivers, discards, has-none, loses, crosses, Together, Permitted, Hops, deciders, Loopless}
@@ -44,17 +45,14 @@ use Rattle.rules.proofs.Entries.{Enters, sends, entered, away}
 use Rattle.rules.proofs.OneChange.{one-change}
 use Rattle.rules.proofs.Hop.{Sends, Trail, stays, goes, no-router-twice, trail-inside, trail-short}
 
--- what a packet for d meets at router i, the n-th that decides, coming from j
-abbrev pub entry-at : Site → Choice → ℕ → ℕ → ℕ → Entry
-entry-at site choice n j i = entry-by (site .ways (choice i n)) i j (site .destination)
-
--- one hop more
+-- one hop more is one router more that decides
 pub deciders-suc : (o : Outcome) (hops : ℕ) → deciders o (suc hops) ≡ suc (deciders o hops)
 deciders-suc delivered hops = refl
 deciders-suc discarded hops = refl
 deciders-suc unrouted hops = refl
 deciders-suc lost hops = refl
 
+-- what holds of a hop and of those behind it
 more-hops : (P : ℕ → ℕ → Type 0) (i k : ℕ) (is ks : List ℕ) → is ≡ k ∷ ks → P i k → Hops P is → Hops P (i ∷ is)
 more-hops P i k is ks e p h =
     let h′ : Hops P (k ∷ ks) = rw e at h in

@@ -9,11 +9,11 @@ use lib.Dec.{eqb}
 use lib.ListN.{length, getD}
 use Rattle.rules.specs.Words.{pick, All, below}
 use Rattle.rules.specs.Entries.{Entry, entry-by, starts-here}
-use Rattle.rules.specs.Paths.{View, old-view, new-view, Choice, listed, Trip, Site}
+use Rattle.rules.specs.Paths.{View, old-view, new-view, Choice, listed, Trip, Site, entry-at}
 use Rattle.rules.specs.Demands.{Follows, delivers, discards, has-none, loses, crosses, decisions}
 use Rattle.rules.proofs.Basics.{length-values, value-at, All-values}
 use Rattle.rules.proofs.Entries.{home-delivers, delivers-home}
-use Rattle.rules.proofs.LoopFree.{entry-at, deciders-suc}
+use Rattle.rules.proofs.LoopFree.{deciders-suc}
 
 -- ---- choices that agree at every decision give one answer
 

@@ -14,8 +14,8 @@ use Rattle.rules.specs.Pairs.{differing, too-different}
 use Rattle.rules.specs.Routes.{Route}
 use Rattle.rules.specs.Costs.{LeastCost, no-cost, cost}
 use Rattle.rules.specs.NextHops.{has, chosen, size, next-hops}
-use Rattle.rules.specs.Entries.{deliver, discard, no-route, forward, entry-by, starts-here}
-use Rattle.rules.specs.Paths.{View, new-view, by, Choice, listed, Outcome, delivered, discarded, unrouted, lost, Trip, ended, crossed, Site, follow, site-of, path}
+use Rattle.rules.specs.Entries.{deliver, discard, no-route, forward, starts-here}
+use Rattle.rules.specs.Paths.{View, new-view, by, Choice, listed, Outcome, delivered, discarded, unrouted, lost, Trip, ended, crossed, Site, entry-at, follow, site-of, path}
 use Rattle.rules.specs.Questions.{Answer, reading, pairing, filling, filled-costs, filled-sets, entering, interfacing, interfaced, following, ending, traced, trip-of, naming, naming-of-two}
 
 -- ==== Demand 1: each question is answered or refused by a listed number, and a refusal changes no lent memory
@@ -159,12 +159,12 @@ ChosenByBits = (set : ℕ) → set < 2 ^ 64 → ByBits set
 -- ---- following as a relation: what arriving and leaving give, however many hops it takes
 
 pub data Follows (site : Site) (choice : Choice) : ℕ → ℕ → ℕ → Trip → Type 0 where
-  delivers : {n j i : ℕ} → entry-by (site .ways (choice i n)) i j (site .destination) ≡ deliver → Follows site choice n j i (ended delivered i)
-  discards : {n j i : ℕ} → entry-by (site .ways (choice i n)) i j (site .destination) ≡ discard → Follows site choice n j i (ended discarded i)
-  has-none : {n j i : ℕ} → entry-by (site .ways (choice i n)) i j (site .destination) ≡ no-route → Follows site choice n j i (ended unrouted i)
-  loses : {n j i k : ℕ} → entry-by (site .ways (choice i n)) i j (site .destination) ≡ forward k → site .carries i k ≡ false
+  delivers : {n j i : ℕ} → entry-at site choice n j i ≡ deliver → Follows site choice n j i (ended delivered i)
+  discards : {n j i : ℕ} → entry-at site choice n j i ≡ discard → Follows site choice n j i (ended discarded i)
+  has-none : {n j i : ℕ} → entry-at site choice n j i ≡ no-route → Follows site choice n j i (ended unrouted i)
+  loses : {n j i k : ℕ} → entry-at site choice n j i ≡ forward k → site .carries i k ≡ false
       → Follows site choice n j i (ended lost i)
-  crosses : {n j i k : ℕ} {onward : Trip} → entry-by (site .ways (choice i n)) i j (site .destination) ≡ forward k → site .carries i k ≡ true
+  crosses : {n j i k : ℕ} {onward : Trip} → entry-at site choice n j i ≡ forward k → site .carries i k ≡ true
       → Follows site choice (suc n) i k onward → Follows site choice n j i (crossed i onward)
 
 -- ---- what is asked

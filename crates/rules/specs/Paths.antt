@@ -68,12 +68,16 @@ arrive i out discard = ended discarded i
 arrive i out no-route = ended unrouted i
 arrive i out (forward k) = out k
 
--- The packet stands at router i, came from j, and n routers have decided. `left` bounds the hops: with no hop left nothing is crossed, which the
--- theorems show is never met.
+-- The packet stands at router i, came from j, and n routers have decided: the one view that is chosen here serves for the whole entry.
+abbrev pub entry-at : Site → Choice → ℕ → ℕ → ℕ → Entry
+entry-at site choice n j i = entry-by (site .ways (choice i n)) i j (site .destination)
+
+-- Arriving and leaving take turns until the packet ends. `left` bounds the hops: with none left nothing is crossed, and the theorems show that
+-- this is never met.
 unfoldable pub follow : Site → Choice → ℕ → ℕ → ℕ → ℕ → Trip
-follow site choice zero n j i = arrive i (λ k. ended lost i) (entry-by (site .ways (choice i n)) i j (site .destination))
+follow site choice zero n j i = arrive i (λ k. ended lost i) (entry-at site choice n j i)
 follow site choice (suc left) n j i =
-    arrive i (λ k. leave site i k (follow site choice left (suc n) i k)) (entry-by (site .ways (choice i n)) i j (site .destination))
+    arrive i (λ k. leave site i k (follow site choice left (suc n) i k)) (entry-at site choice n j i)
 
 -- ---- the base
 
