@@ -10,10 +10,11 @@ use lib.Dec.{eqb, ltb, leb}
 use lib.ListN.{length, take, drop, length-append, length-drop}
 use borrow.Author.Tests.{ltb-true, ltb-false, leb-true, leb-false, eqb-true, not-false}
 use Rattle.rules.specs.Words.{pick, Line, first_otherwise_, All}
-use Rattle.rules.specs.Table.{Table, read, number-of, says}
+use Rattle.rules.specs.Layout.{Table}
+use Rattle.rules.specs.Table.{read, number-of, says}
 use Rattle.rules.specs.Pairs.{differing, too-different}
 use Rattle.rules.specs.Paths.{listed, Trip, path}
-use Rattle.rules.specs.Questions.{Refusal, refusal, bad-table, answer, path-refusals, few-views, bad-views, trip-of, following, ending, traced}
+use Rattle.rules.specs.Questions.{Refusal, refusal, bad-table, answer, path-refusals, few-views, bad-views, trip-of, path-answer, ending, trace-after}
 use Rattle.rules.specs.Demands.{Together, AcceptedTogether, Demand3OfBase, Demand3ForAccepted, Demand3ForQuestions}
 use Rattle.rules.proofs.Basics.{neither, every-true}
 use Rattle.rules.proofs.Acceptance.{obeys}
@@ -71,8 +72,8 @@ enough-views : (t : Table) (views : List ℕ) → few-views t views ≡ false �
 unfolding few-views
 enough-views t views e = omega (arith, ltb-false (length views) _ e)
 
-asked : (old new : List ℕ) (s d : ℕ) (views trace : List ℕ) → following old new s d views trace .refusal .number ≡ 0 → Asked old new s d views trace
-unfolding following answer bad-table too-different bad-views
+asked : (old new : List ℕ) (s d : ℕ) (views trace : List ℕ) → path-answer old new s d views trace .refusal .number ≡ 0 → Asked old new s d views trace
+unfolding path-answer answer bad-table too-different bad-views
 asked old new s d views trace e =
     let (r₀, (r₁, (r₂, (r₃, (r₄, (r₅, r₆)))))) = none-applies (path-refusals old new s d views trace) (refuses old new s d views trace) e in
     let pair = neither (not (eqb (says old .routers) (says new .routers))) _ r₂ in
@@ -97,14 +98,14 @@ asked old new s d views trace e =
 length-over : (written lent : List ℕ) → length written ≤ length lent → length (written ++ drop (length written) lent) ≡ length lent
 length-over written lent h = length-append written (drop (length written) lent) ∙ omega (arith, length-drop (length written) lent)
 
-held : (old new : List ℕ) (s d : ℕ) (views trace : List ℕ) → following old new s d views trace .refusal .number ≡ 0
-    → traced old new s d views trace ≡ trip-of old new s d views .trace ++ drop (length (trip-of old new s d views .trace)) trace
-unfolding traced
-held old new s d views trace e = writes (following old new s d views trace) (trip-of old new s d views .trace) trace e
+held : (old new : List ℕ) (s d : ℕ) (views trace : List ℕ) → path-answer old new s d views trace .refusal .number ≡ 0
+    → trace-after old new s d views trace ≡ trip-of old new s d views .trace ++ drop (length (trip-of old new s d views .trace)) trace
+unfolding trace-after
+held old new s d views trace e = writes (path-answer old new s d views trace) (trip-of old new s d views .trace) trace e
 
-given : (old new : List ℕ) (s d : ℕ) (views trace : List ℕ) → following old new s d views trace .refusal .number ≡ 0
-    → following old new s d views trace .values ≡ ending (trip-of old new s d views)
-unfolding following
+given : (old new : List ℕ) (s d : ℕ) (views trace : List ℕ) → path-answer old new s d views trace .refusal .number ≡ 0
+    → path-answer old new s d views trace .values ≡ ending (trip-of old new s d views)
+unfolding path-answer
 given old new s d views trace e = gives-values (path-refusals old new s d views trace) _ _ e
 
 pub demand3-for-questions : Demand3ForQuestions

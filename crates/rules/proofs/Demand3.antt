@@ -9,12 +9,11 @@ use native.Mathlib.Nat.{zero-add}
 use native.Mathlib.Omega.{arith}
 use lib.ListN.{getD}
 use borrow.Author.Tests.{lt-ltb, ltb-true}
-use Rattle.rules.specs.Table.{Table}
-use Rattle.rules.specs.Layout.{Obeys}
+use Rattle.rules.specs.Layout.{Table, Obeys}
 use Rattle.rules.specs.Links.{weight}
 use Rattle.rules.specs.Costs.{no-cost, cost}
 use Rattle.rules.specs.NextHops.{has, chosen, next-hops}
-use Rattle.rules.specs.Entries.{ways, starts-here}
+use Rattle.rules.specs.Entries.{rules-of, starts-here}
 use Rattle.rules.specs.Paths.{by, Choice, Trip, follow, site-of, path}
 use Rattle.rules.specs.Demands.{Follows, Together, Permitted, Willing, Hops, Loopless, Demand3ForAnyRules, Demand3OfBase}
 use Rattle.rules.proofs.LeastCost.{cost-laws}
@@ -40,9 +39,9 @@ demand3-for-any-rules old new s d site choice 𝓣 b h 𝓟 = record {
 }
   where
     trip : Trip
-    trip = follow site choice (new .routers - 1) 0 starts-here s
+    trip = follow site choice (new .routers - 1) 0 s starts-here
 
-    f : Follows site choice 0 starts-here s trip
+    f : Follows site choice 0 s starts-here trip
     f = follows 𝓣 𝓟 choice starts-here s b
 
     free : Loopless (new .routers) s site choice trip
@@ -57,7 +56,7 @@ base-member t o i d a f =
     chosen-member (next-hops t i d) k (sets-fit t o i d) (has-next t o i d k .1 s) .0
 
 pub base-permitted : {old new : Table} → Together old new → (d : ℕ) → Permitted old new d (site-of old new d)
-unfolding site-of ways
+unfolding site-of rules-of
 base-permitted {old} {new} 𝓣 d = record {
   for-d = refl;
   knows = λ v i. refl;
@@ -74,7 +73,7 @@ not-back t o i j d e = go (has (next-hops t i d) j) refl
     go false q = refl
 
 pub base-willing : {old new : Table} → Together old new → (d : ℕ) → Willing new d (site-of old new d)
-unfolding site-of ways
+unfolding site-of rules-of
 base-willing {old} {new} 𝓣 d = record {
   starts-on = λ i. has-below (next-hops new i d) 64 starts-here (sets-fit new (𝓣 .new-obeys) i d) (omega arith);
   goes-on = λ i j. not-back new (𝓣 .new-obeys) i j d;

@@ -11,8 +11,8 @@ use lib.Dec.{ltb}
 use lib.ListN.{length, take, drop, length-drop}
 use borrow.Author.Tests.{ltb-false, le-ltb, eq-eqb, ne-eqb}
 use Rattle.rules.specs.Words.{pick}
-use Rattle.rules.specs.Table.{byte, two-bytes, tag-end, Kept, nothing-kept, keep, bad-tag, length-allowed, contents-fit, not-above, too-many, record-in, fault, good, bad, step, Judged, accepted, refused, behind, judge-from, judge}
-use Rattle.rules.proofs.Basics.{pick-t, pick-f}
+use Rattle.rules.specs.Layout.{tag-end}
+use Rattle.rules.specs.Table.{byte, two-bytes, Kept, nothing-kept, keep, bad-tag, length-allowed, contents-fit, not-above, too-many, record-in, Step, good, bad, step, Judged, accepted, refused, followed-by, judge-from, judge}
 
 -- ---- one record
 
@@ -33,26 +33,38 @@ pub record Good (kept : Kept) (left : List ℕ) : Type 0 where
   pub above : not-above kept (byte left 0) (contents-in left) ≡ false
   pub few : too-many kept (byte left 0) ≡ false
 
-pub fault-good : (kept : Kept) (left : List ℕ) → fault kept left ≡ 0 → Good kept left
-unfolding fault
-fault-good kept left e =
+-- what the step answers: a good record, or a number from 1 to 6
+pub data Steps (kept : Kept) (place : ℕ) (left : List ℕ) : Step → Type 0 where
+  gives : Good kept left → Steps kept place left (good (record-in place left) (place + 3 + size-in left))
+  refuses : (number : ℕ) → 1 ≤ number → number ≤ 6 → Steps kept place left (bad number place)
+
+pub steps : (kept : Kept) (place : ℕ) (left : List ℕ) → Steps kept place left (step kept place left)
+unfolding step
+steps kept place left =
     go (ltb (length left) 3) refl (bad-tag kept (byte left 0)) refl (length-allowed (byte left 0) (size-in left)) refl
     (ltb (length left) (3 + size-in left)) refl (contents-fit (kept .routers) (byte left 0) (contents-in left)) refl
-    (not-above kept (byte left 0) (contents-in left)) refl (too-many kept (byte left 0)) refl e
+    (not-above kept (byte left 0) (contents-in left)) refl (too-many kept (byte left 0)) refl
   where
     go : (a : Bool) → ltb (length left) 3 ≡ a → (b : Bool) → bad-tag kept (byte left 0) ≡ b
         → (c : Bool) → length-allowed (byte left 0) (size-in left) ≡ c → (d : Bool) → ltb (length left) (3 + size-in left) ≡ d
         → (f : Bool) → contents-fit (kept .routers) (byte left 0) (contents-in left) ≡ f
         → (g : Bool) → not-above kept (byte left 0) (contents-in left) ≡ g → (h : Bool) → too-many kept (byte left 0) ≡ h
-        → pick {A = ℕ} a 1 (pick b 2 (pick (not c) 3 (pick d 1 (pick (not f) 4 (pick g 5 (pick h 6 0)))))) ≡ 0 → Good kept left
-    go true p b q c r d s f t g u h v e = absurd (omega arith)
-    go false p true q c r d s f t g u h v e = absurd (omega arith)
-    go false p false q false r d s f t g u h v e = absurd (omega arith)
-    go false p false q true r true s f t g u h v e = absurd (omega arith)
-    go false p false q true r false s false t g u h v e = absurd (omega arith)
-    go false p false q true r false s true t true u h v e = absurd (omega arith)
-    go false p false q true r false s true t false u true v e = absurd (omega arith)
-    go false p false q true r false s true t false u false v e = record {
+        → Steps kept place left (
+        pick a (bad 1 place) (
+        pick b (bad 2 place) (
+        pick (not c) (bad 3 place) (
+        pick d (bad 1 place) (
+        pick (not f) (bad 4 place) (
+        pick g (bad 5 place) (pick h (bad 6 place) (good (record-in place left) (place + 3 + size-in left))))))))
+        )
+    go true p b q c r d s f t g u h v = refuses 1 (omega arith) (omega arith)
+    go false p true q c r d s f t g u h v = refuses 2 (omega arith) (omega arith)
+    go false p false q false r d s f t g u h v = refuses 3 (omega arith) (omega arith)
+    go false p false q true r true s f t g u h v = refuses 1 (omega arith) (omega arith)
+    go false p false q true r false s false t g u h v = refuses 4 (omega arith) (omega arith)
+    go false p false q true r false s true t true u h v = refuses 5 (omega arith) (omega arith)
+    go false p false q true r false s true t false u true v = refuses 6 (omega arith) (omega arith)
+    go false p false q true r false s true t false u false v = gives (record {
       headed = ltb-false (length left) 3 p;
       tagged = q;
       sized = r;
@@ -60,11 +72,13 @@ fault-good kept left e =
       fits = t;
       above = u;
       few = v;
-    }
+    })
 
-pub good-fault : (kept : Kept) (left : List ℕ) → Good kept left → fault kept left ≡ 0
-unfolding fault
-good-fault kept left g =
+-- a good record is what the step gives
+step-good : (kept : Kept) (place : ℕ) (left : List ℕ) → Good kept left
+    → step kept place left ≡ good (record-in place left) (place + 3 + size-in left)
+unfolding step
+step-good kept place left g =
     rw (
       le-ltb (length left) 3 (g .headed),
       g .tagged,
@@ -79,38 +93,30 @@ good-fault kept left g =
 
 -- judging the bytes that remain gives j
 pub data Judges : Kept → ℕ → List ℕ → Judged → Type 0 where
-  stops : {kept : Kept} {place : ℕ} {left : List ℕ} → fault kept left ≢ 0 → Judges kept place left (refused (fault kept left) place)
+  stops : {kept : Kept} {place number : ℕ} {left : List ℕ} → step kept place left ≡ bad number place → 1 ≤ number → number ≤ 6
+      → Judges kept place left (refused number place)
   ends : {kept : Kept} {place : ℕ} {left : List ℕ} → Good kept left → byte left 0 ≡ tag-end
       → Judges kept place left (accepted (record-in place left ∷ []) (place + 3 + size-in left))
   goes : {kept : Kept} {place : ℕ} {left : List ℕ} {j : Judged} → Good kept left → byte left 0 ≢ tag-end
       → Judges (keep kept (record-in place left)) (place + 3 + size-in left) (drop (3 + size-in left) left) j
-      → Judges kept place left (behind (record-in place left) j)
-
-step-good : (kept : Kept) (place : ℕ) (left : List ℕ) → fault kept left ≡ 0
-    → step kept place left ≡ good (record-in place left) (place + 3 + size-in left)
-unfolding step
-step-good kept place left e = pick-t _ _ _ (eq-eqb (fault kept left) 0 e)
-
-step-bad : (kept : Kept) (place : ℕ) (left : List ℕ) → fault kept left ≢ 0 → step kept place left ≡ bad (fault kept left) place
-unfolding step
-step-bad kept place left e = pick-f _ _ _ (ne-eqb (fault kept left) 0 e)
+      → Judges kept place left (followed-by (record-in place left) j)
 
 -- one turn of judging, by cases
-judge-stops : (most : ℕ) (kept : Kept) (place : ℕ) (left : List ℕ) → fault kept left ≢ 0
-    → judge-from (suc most) kept place left ≡ refused (fault kept left) place
+judge-stops : (most : ℕ) (kept : Kept) (place number : ℕ) (left : List ℕ) → step kept place left ≡ bad number place
+    → judge-from (suc most) kept place left ≡ refused number place
 unfolding judge-from
-judge-stops most kept place left f = rw (step-bad kept place left f, judge-from)
+judge-stops most kept place number left e = rw (e, judge-from)
 
-judge-ends : (most : ℕ) (kept : Kept) (place : ℕ) (left : List ℕ) → fault kept left ≡ 0 → byte left 0 ≡ tag-end
+judge-ends : (most : ℕ) (kept : Kept) (place : ℕ) (left : List ℕ) → Good kept left → byte left 0 ≡ tag-end
     → judge-from (suc most) kept place left ≡ accepted (record-in place left ∷ []) (place + 3 + size-in left)
 unfolding judge-from
-judge-ends most kept place left f e = rw (step-good kept place left f, eq-eqb (byte left 0) tag-end e, judge-from)
+judge-ends most kept place left g e = rw (step-good kept place left g, eq-eqb (byte left 0) tag-end e, judge-from)
 
-judge-goes : (most : ℕ) (kept : Kept) (place : ℕ) (left : List ℕ) → fault kept left ≡ 0 → byte left 0 ≢ tag-end
+judge-goes : (most : ℕ) (kept : Kept) (place : ℕ) (left : List ℕ) → Good kept left → byte left 0 ≢ tag-end
     → judge-from (suc most) kept place left
-    ≡ behind (record-in place left) (judge-from most (keep kept (record-in place left)) (place + 3 + size-in left) (drop (3 + size-in left) left))
+    ≡ followed-by (record-in place left) (judge-from most (keep kept (record-in place left)) (place + 3 + size-in left) (drop (3 + size-in left) left))
 unfolding judge-from
-judge-goes most kept place left f e = rw (step-good kept place left f, ne-eqb (byte left 0) tag-end e, judge-from)
+judge-goes most kept place left g e = rw (step-good kept place left g, ne-eqb (byte left 0) tag-end e, judge-from)
 
 -- a good record takes some of the bytes that remain
 shorter : (kept : Kept) (left : List ℕ) → Good kept left → (most : ℕ) → length left < suc most → length (drop (3 + size-in left) left) < most
@@ -120,32 +126,30 @@ shorter kept left g most h = rw (length-drop (3 + size-in left) left) (omega (ar
 pub judges : (most : ℕ) (kept : Kept) (place : ℕ) (left : List ℕ) → length left < most → Judges kept place left (judge-from most kept place left)
 judges zero kept place left h = absurd (omega arith)
 judges (suc most) kept place left h =
-    go (ℕ-discrete (fault kept left) 0) (ℕ-discrete (byte left 0) tag-end)
+    go (step kept place left) refl (steps kept place left) (ℕ-discrete (byte left 0) tag-end)
     (judges most (keep kept (record-in place left)) (place + 3 + size-in left) (drop (3 + size-in left) left))
   where
     rest : Judged
     rest = judge-from most (keep kept (record-in place left)) (place + 3 + size-in left) (drop (3 + size-in left) left)
 
-    go : Dec (fault kept left ≡ 0) → Dec (byte left 0 ≡ tag-end)
+    go : (s : Step) → step kept place left ≡ s → Steps kept place left s → Dec (byte left 0 ≡ tag-end)
         → (length (drop (3 + size-in left) left) < most
         → Judges (keep kept (record-in place left)) (place + 3 + size-in left) (drop (3 + size-in left) left) rest)
         → Judges kept place left (judge-from (suc most) kept place left)
-    go (no f) d ih = rw (judge-stops most kept place left f) (stops f)
-    go (yes f) (yes e) ih = rw (judge-ends most kept place left f e) (ends (fault-good kept left f) e)
-    go (yes f) (no e) ih =
-        let g = fault-good kept left f in
-        rw (judge-goes most kept place left f e) (goes g e (ih (shorter kept left g most h)))
+    go s q (refuses number a b) d ih = rw (judge-stops most kept place number left q) (stops q a b)
+    go s q (gives g) (yes e) ih = rw (judge-ends most kept place left g e) (ends g e)
+    go s q (gives g) (no e) ih = rw (judge-goes most kept place left g e) (goes g e (ih (shorter kept left g most h)))
 
 -- and nothing else is
 pub judged : {kept : Kept} {place : ℕ} {left : List ℕ} {j : Judged} → Judges kept place left j
     → (most : ℕ) → length left < most → judge-from most kept place left ≡ j
-judged {left = left} (stops f) zero h = absurd (omega arith)
-judged {kept} {place} {left} (stops f) (suc most) h = judge-stops most kept place left f
+judged (stops q a b) zero h = absurd (omega arith)
+judged {kept} {place} {left} (stops {number = number} q a b) (suc most) h = judge-stops most kept place number left q
 judged (ends g e) zero h = absurd (omega arith)
-judged {kept} {place} {left} (ends g e) (suc most) h = judge-ends most kept place left (good-fault kept left g) e
+judged {kept} {place} {left} (ends g e) (suc most) h = judge-ends most kept place left g e
 judged (goes g e r) zero h = absurd (omega arith)
 judged {kept} {place} {left} (goes g e r) (suc most) h =
-    judge-goes most kept place left (good-fault kept left g) e ∙ ap (behind (record-in place left)) (judged r most (shorter kept left g most h))
+    judge-goes most kept place left g e ∙ ap (followed-by (record-in place left)) (judged r most (shorter kept left g most h))
 
 pub judge-judges : (bytes : List ℕ) → Judges nothing-kept 0 bytes (judge bytes)
 unfolding judge

@@ -10,8 +10,7 @@ use native.Mathlib.Omega.{arith}
 use lib.Dec.{eqb}
 use borrow.Author.Tests.{eqb-true, eqb-false, eq-eqb, ne-eqb}
 use Rattle.rules.specs.Words.{pick}
-use Rattle.rules.specs.Table.{Table}
-use Rattle.rules.specs.Layout.{Obeys}
+use Rattle.rules.specs.Layout.{Table, Obeys}
 use Rattle.rules.specs.Links.{weight}
 use Rattle.rules.specs.Routes.{Route, arrived, via}
 use Rattle.rules.specs.Costs.{LeastCost, least, none, no-cost, direct, best, cost}

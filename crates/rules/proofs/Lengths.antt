@@ -1,6 +1,6 @@
 -- An accepted table has at most 3,079 bytes, a refusal's place is at most 3,079, and the first 4,096 bytes settle what is read.
 -- Assumes nothing.
-use mathlib.Core.Path.{_≡_, refl, sym, _∙_, ap, subst}
+use mathlib.Core.Path.{_≡_, refl, _∙_, ap, subst}
 use mathlib.Core.Logic.{_≢_}
 use mathlib.Core.Bool.{Bool, true, false}
 use mathlib.Core.List.{List, [], _∷_}
@@ -11,10 +11,11 @@ use lib.ListN.{length, take, drop, length-take}
 use lib.Seq.{getD-take, take-take}
 use borrow.Author.Tests.{ltb-true, ltb-false, eqb-true, lt-ltb, le-ltb}
 use Rattle.rules.specs.Words.{pick}
-use Rattle.rules.specs.Table.{byte, Name, tag-routers, tag-name, tag-link, tag-end, name-of, length-allowed, key, Record, Kept, keep, record-in, fault, Judged, accepted, refused, behind, judge, nothing-behind, read, number-of, place-of}
+use Rattle.rules.specs.Layout.{Name, tag-routers, tag-name, tag-link, tag-end}
+use Rattle.rules.specs.Table.{byte, name-of, length-allowed, key, Record, Kept, keep, record-in, step, Judged, accepted, refused, followed-by, judge, nothing-behind, read, number-of, place-of}
 use Rattle.rules.specs.Demands.{Lengths}
 use Rattle.rules.proofs.Basics.{drop-take}
-use Rattle.rules.proofs.Judging.{size-in, contents-in, Good, fault-good, good-fault, Judges, stops, ends, goes, judged, judge-judges}
+use Rattle.rules.proofs.Judging.{size-in, contents-in, Good, Judges, stops, ends, goes, judged, judge-judges}
 use Rattle.rules.proofs.Records.{
   Known,
   is-routers,
@@ -40,7 +41,7 @@ use Rattle.rules.proofs.Records.{
 data Near (kept : Kept) (place : ℕ) : Type 0 where
   at-start : kept .tag ≡ 0 → kept .links ≡ 0 → place ≡ 0 → Near kept place
   behind-routers : kept .tag ≡ tag-routers → kept .links ≡ 0 → kept .routers ≤ 64 → place ≤ 4 → Near kept place
-  behind-name : kept .tag ≡ tag-name → kept .links ≡ 0 → kept .routers ≤ 64 → kept .key < kept .routers → place ≤ 24 + 20 * kept .key
+  behind-name : kept .tag ≡ tag-name → kept .links ≡ 0 → kept .routers ≤ 64 → kept .last < kept .routers → place ≤ 24 + 20 * kept .last
       → Near kept place
   behind-link : kept .tag ≡ tag-link → kept .links ≤ 256 → place ≤ 1284 + 7 * kept .links → Near kept place
 
@@ -94,13 +95,13 @@ Within (refused number place) = (number ≢ 0) × (place ≤ 3076)
 
 judged-within : {kept : Kept} {place : ℕ} {left : List ℕ} {j : Judged} → Judges kept place left j → Near kept place → Within j
 unfolding length-allowed
-judged-within (stops f) n = (f, omega (arith, near-links n))
+judged-within (stops q a b) n = (omega arith, omega (arith, near-links n))
 judged-within {left = left} (ends g e) n =
     let s : length-allowed tag-end (size-in left) ≡ true = rw e at (g .sized) in
     omega (arith, near-links n, eqb-true (size-in left) 0 s)
 judged-within {kept} {place} {left} (goes {j = j} g e r) n = go j (judged-within r (near-next kept place left g e n))
   where
-    go : (j : Judged) → Within j → Within (behind (record-in place left) j)
+    go : (j : Judged) → Within j → Within (followed-by (record-in place left) j)
     go (accepted rs end) h = h
     go (refused number place) h = h
 
@@ -130,34 +131,42 @@ module _ (kept : Kept) (left : List ℕ) (m : ℕ) (h : 20 ≤ m) where
   contents-cut : (n : ℕ) → n ≤ 17 → take n (drop 3 (take m left)) ≡ take n (drop 3 left)
   contents-cut n l = rw (drop-take 3 m left) (take-take n (m - 3) (drop 3 left) (omega arith))
 
-  fault-cut : fault kept (take m left) ≡ fault kept left
-  unfolding fault
-  fault-cut = go (length-allowed (byte left 0) (size-in left)) refl
-    where
-      go : (t : Bool) → length-allowed (byte left 0) (size-in left) ≡ t → fault kept (take m left) ≡ fault kept left
-      go true e =
-          let s = size-at-most (byte left 0) (size-in left) e in
-          rw (size-cut, byte-cut 0 (omega arith), short-cut 3 (omega arith), short-cut (3 + size-in left) (omega arith), contents-cut (size-in left) s)
-      go false e = rw (size-cut, byte-cut 0 (omega arith), short-cut 3 (omega arith), e)
-
   good-cut : Good kept left → Good kept (take m left)
-  good-cut g = fault-good kept (take m left) (fault-cut ∙ good-fault kept left g)
+  good-cut g =
+      let s = size-at-most (byte left 0) (size-in left) (g .sized) in
+      record {
+        headed = omega (arith, length-take m left, g .headed);
+        tagged = rw (byte-cut 0 (omega arith)) (g .tagged);
+        sized = rw (size-cut, byte-cut 0 (omega arith)) (g .sized);
+        whole = rw (size-cut) (omega (arith, length-take m left, g .whole));
+        fits = rw (size-cut, byte-cut 0 (omega arith), contents-cut (size-in left) s) (g .fits);
+        above = rw (size-cut, byte-cut 0 (omega arith), contents-cut (size-in left) s) (g .above);
+        few = rw (byte-cut 0 (omega arith)) (g .few);
+      }
 
   record-cut : (place : ℕ) → Good kept left → record-in place (take m left) ≡ record-in place left
   record-cut place g =
       rw (size-cut, byte-cut 0 (omega arith), contents-cut (size-in left) (size-at-most (byte left 0) (size-in left) (g .sized)))
 
-  -- the three cases of judging
-  cut-stops : (place : ℕ) → fault kept left ≢ 0 → Judges kept place (take m left) (refused (fault kept left) place)
-  cut-stops place f = rw (← fault-cut) (stops (λ z. f (sym fault-cut ∙ z)))
+  -- whatever the step answers, it answers so of the cut bytes
+  step-cut : (place : ℕ) → step kept place (take m left) ≡ step kept place left
+  unfolding step
+  step-cut place = go (length-allowed (byte left 0) (size-in left)) refl
+    where
+      go : (t : Bool) → length-allowed (byte left 0) (size-in left) ≡ t → step kept place (take m left) ≡ step kept place left
+      go true e =
+          let s = size-at-most (byte left 0) (size-in left) e in
+          rw (size-cut, byte-cut 0 (omega arith), short-cut 3 (omega arith), short-cut (3 + size-in left) (omega arith), contents-cut (size-in left) s)
+      go false e = rw (size-cut, byte-cut 0 (omega arith), short-cut 3 (omega arith), e)
 
+  -- the other two cases of judging
   cut-ends : (place : ℕ) → Good kept left → byte left 0 ≡ tag-end
       → Judges kept place (take m left) (accepted (record-in place left ∷ []) (place + 3 + size-in left))
   cut-ends place g e = rw (← record-cut place g, ← size-cut) (ends (good-cut g) (byte-cut 0 (omega arith) ∙ e))
 
   cut-goes : (place : ℕ) {j : Judged} → Good kept left → byte left 0 ≢ tag-end
       → Judges (keep kept (record-in place left)) (place + 3 + size-in left) (take (m - (3 + size-in left)) (drop (3 + size-in left) left)) j
-      → Judges kept place (take m left) (behind (record-in place left) j)
+      → Judges kept place (take m left) (followed-by (record-in place left) j)
   cut-goes place {j} g e r =
       let same = record-cut place g in
       rw (← same)
@@ -169,7 +178,7 @@ module _ (kept : Kept) (left : List ℕ) (m : ℕ) (h : 20 ≤ m) where
 -- the first 4,096 bytes of a table are judged as the table is; m of them remain
 judged-cut : {kept : Kept} {place : ℕ} {left : List ℕ} {j : Judged} → Judges kept place left j → Near kept place
     → (m : ℕ) → m + place ≡ 4096 → Judges kept place (take m left) j
-judged-cut {kept} {place} {left} (stops f) n m h = cut-stops kept left m (omega (arith, near-links n)) place f
+judged-cut {kept} {place} {left} (stops q a b) n m h = stops (step-cut kept left m (omega (arith, near-links n)) place ∙ q) a b
 judged-cut {kept} {place} {left} (ends g e) n m h = cut-ends kept left m (omega (arith, near-links n)) place g e
 judged-cut {kept} {place} {left} (goes g e r) n m h =
     let s = size-at-most (byte left 0) (size-in left) (g .sized) in

@@ -9,8 +9,7 @@ use native.Mathlib.Omega.{arith}
 use lib.ListN.{length, getD}
 use borrow.Author.Tests.{ltb-true}
 use Rattle.rules.specs.Words.{pick, All, Distinct}
-use Rattle.rules.specs.Table.{Table}
-use Rattle.rules.specs.Layout.{Obeys}
+use Rattle.rules.specs.Layout.{Table, Obeys}
 use Rattle.rules.specs.Links.{weight}
 use Rattle.rules.specs.Costs.{no-cost, cost}
 use Rattle.rules.specs.Entries.{Entry, deliver, discard, no-route, forward, entry-by, starts-here}
@@ -62,14 +61,14 @@ more-hops P i k is ks e p h =
 
 module _ {site : Site} {choice : Choice} where
   -- the trace begins where the packet stands
-  pub begins : {n j i : ℕ} {trip : Trip} → Follows site choice n j i trip → (ks : List ℕ) × (trip .trace ≡ i ∷ ks)
+  pub begins : {n i j : ℕ} {trip : Trip} → Follows site choice n i j trip → (ks : List ℕ) × (trip .trace ≡ i ∷ ks)
   begins (delivers e) = ([], refl)
   begins (discards e) = ([], refl)
   begins (has-none e) = ([], refl)
   begins (loses e f) = ([], refl)
   begins (crosses {onward = onward} e f r) = (onward .trace, refl)
 
-  pub counted : {n j i : ℕ} {trip : Trip} → Follows site choice n j i trip → length (trip .trace) ≡ suc (trip .hops)
+  pub counted : {n i j : ℕ} {trip : Trip} → Follows site choice n i j trip → length (trip .trace) ≡ suc (trip .hops)
   counted (delivers e) = refl
   counted (discards e) = refl
   counted (has-none e) = refl
@@ -77,7 +76,7 @@ module _ {site : Site} {choice : Choice} where
   counted (crosses e f r) = ap suc (counted r)
 
   -- it ends where the packet ended
-  finished : {n j i : ℕ} {trip : Trip} → Follows site choice n j i trip → getD (trip .trace) (trip .hops) starts-here ≡ trip .router
+  finished : {n i j : ℕ} {trip : Trip} → Follows site choice n i j trip → getD (trip .trace) (trip .hops) starts-here ≡ trip .router
   finished (delivers e) = refl
   finished (discards e) = refl
   finished (has-none e) = refl
@@ -85,7 +84,7 @@ module _ {site : Site} {choice : Choice} where
   finished (crosses e f r) = finished r
 
   -- every link crossed carries
-  carried : {n j i : ℕ} {trip : Trip} → Follows site choice n j i trip → Hops (λ i k. site .carries i k ≡ true) (trip .trace)
+  carried : {n i j : ℕ} {trip : Trip} → Follows site choice n i j trip → Hops (λ i k. site .carries i k ≡ true) (trip .trace)
   carried (delivers e) = tt
   carried (discards e) = tt
   carried (has-none e) = tt
@@ -95,15 +94,15 @@ module _ {site : Site} {choice : Choice} where
       more-hops (λ i k. site .carries i k ≡ true) i k (onward .trace) ks q f (carried r)
 
   -- a packet that was not delivered met no destination
-  never-home : {n j i : ℕ} {trip : Trip} → Follows site choice n j i trip → trip .outcome ≢ delivered → All (λ z. z ≢ site .destination) (trip .trace)
+  never-home : {n i j : ℕ} {trip : Trip} → Follows site choice n i j trip → trip .outcome ≢ delivered → All (λ z. z ≢ site .destination) (trip .trace)
   never-home (delivers e) h = absurd (h refl)
-  never-home (discards {n} {j} {i} e) h = (away (site .ways (choice i n)) i j (site .destination) e refl, tt)
-  never-home (has-none {n} {j} {i} e) h = (away (site .ways (choice i n)) i j (site .destination) e refl, tt)
-  never-home (loses {n} {j} {i} e f) h = (away (site .ways (choice i n)) i j (site .destination) e refl, tt)
-  never-home (crosses {n} {j} {i} e f r) h = (away (site .ways (choice i n)) i j (site .destination) e refl, never-home r h)
+  never-home (discards {n} {i} {j} e) h = (away (site .rules (choice i n)) i j (site .destination) e refl, tt)
+  never-home (has-none {n} {i} {j} e) h = (away (site .rules (choice i n)) i j (site .destination) e refl, tt)
+  never-home (loses {n} {i} {j} e f) h = (away (site .rules (choice i n)) i j (site .destination) e refl, tt)
+  never-home (crosses {n} {i} {j} e f r) h = (away (site .rules (choice i n)) i j (site .destination) e refl, never-home r h)
 
   -- the bound is not met where the hops are within it
-  pub bounded : {n j i : ℕ} {trip : Trip} → Follows site choice n j i trip → (left : ℕ) → trip .hops ≤ left → follow site choice left n j i ≡ trip
+  pub bounded : {n i j : ℕ} {trip : Trip} → Follows site choice n i j trip → (left : ℕ) → trip .hops ≤ left → follow site choice left n i j ≡ trip
   unfolding follow
   bounded (delivers e) zero h = rw e
   bounded (delivers e) (suc left) h = rw e
@@ -117,7 +116,7 @@ module _ {site : Site} {choice : Choice} where
   bounded (crosses {i = i} e f r) (suc left) h = rw (e, f) (ap (crossed i) (bounded r left (omega arith)))
 
   -- the rules give one answer
-  pub one-trip : {n j i : ℕ} {trip trip′ : Trip} → Follows site choice n j i trip → Follows site choice n j i trip′ → trip ≡ trip′
+  pub one-trip : {n i j : ℕ} {trip trip′ : Trip} → Follows site choice n i j trip → Follows site choice n i j trip′ → trip ≡ trip′
   one-trip {trip = trip} {trip′ = trip′} f g =
       sym (bounded f (trip .hops + trip′ .hops) (omega arith)) ∙ bounded g (trip .hops + trip′ .hops) (omega arith)
 
@@ -148,41 +147,41 @@ module _ {old new : Table} (𝓣 : Together old new) where
 
 module _ {old new : Table} {d : ℕ} {site : Site} (𝓣 : Together old new) (𝓟 : Permitted old new d site) where
   -- a router that forwards does so to a next hop, and did not come from one
-  sent : (v : View) (j i k : ℕ) → entry-by (site .ways v) i j (site .destination) ≡ forward k → Sends (W old new) (C old new d) v j i k
-  sent v j i k e = go (entered (site .ways v) i j (site .destination) e)
+  sent : (v : View) (j i k : ℕ) → entry-by (site .rules v) i j (site .destination) ≡ forward k → Sends (W old new) (C old new d) v j i k
+  sent v j i k e = go (entered (site .rules v) i j (site .destination) e)
     where
-      go : {k : ℕ} → Enters (site .ways v) i j (site .destination) (forward k) → Sends (W old new) (C old new d) v j i k
+      go : {k : ℕ} → Enters (site .rules v) i j (site .destination) (forward k) → Sends (W old new) (C old new d) v j i k
       go (sends a r t) =
           let finite = ltb-true (cost (by v old new) i d) no-cost (sym (𝓟 .knows v i) ∙ r) in
           record {
-            onward = has-next (by v old new) (obeys 𝓣 v) i d (site .ways v .hop i) .0 (𝓟 .member v i (λ q. a (q ∙ sym (𝓟 .for-d))) finite);
+            onward = has-next (by v old new) (obeys 𝓣 v) i d (site .rules v .hop i) .0 (𝓟 .member v i (λ q. a (q ∙ sym (𝓟 .for-d))) finite);
             kept = λ s. false≢true (sym t ∙ 𝓟 .drops v i j (has-next (by v old new) (obeys 𝓣 v) i d j .1 s));
           }
 
   module _ (choice : Choice) where
-    trail : {n j i : ℕ} {trip : Trip} → Follows site choice n j i trip → Trail (W old new) (C old new d) j i (trip .trace)
+    trail : {n i j : ℕ} {trip : Trip} → Follows site choice n i j trip → Trail (W old new) (C old new d) j i (trip .trace)
     trail (delivers e) = stays
     trail (discards e) = stays
     trail (has-none e) = stays
     trail (loses e f) = stays
-    trail (crosses {n} {j} {i} {k} e f r) = goes (sent (choice i n) j i k e) (trail r)
+    trail (crosses {n} {i} {j} {k} e f r) = goes (sent (choice i n) j i k e) (trail r)
 
     -- following gives what the rules give, or a trail longer than its bound
-    runs : (left n j i : ℕ) → Follows site choice n j i (follow site choice left n j i) ⊎ ((is : List ℕ) × Trail (W old new) (C old new d) j i is × (length is ≡ suc (suc left)))
+    runs : (left n i j : ℕ) → Follows site choice n i j (follow site choice left n i j) ⊎ ((is : List ℕ) × Trail (W old new) (C old new d) j i is × (length is ≡ suc (suc left)))
     unfolding follow
-    runs zero n j i = go (entry-at site choice n j i) refl
+    runs zero n i j = go (entry-at site choice n i j) refl
       where
-        go : (e : Entry) → entry-at site choice n j i ≡ e
-            → Follows site choice n j i (arrive i (λ k. ended lost i) e) ⊎ ((is : List ℕ) × Trail (W old new) (C old new d) j i is × (length is ≡ 2))
+        go : (e : Entry) → entry-at site choice n i j ≡ e
+            → Follows site choice n i j (arrive i (λ k. ended lost i) e) ⊎ ((is : List ℕ) × Trail (W old new) (C old new d) j i is × (length is ≡ 2))
         go deliver q = inl (delivers q)
         go discard q = inl (discards q)
         go no-route q = inl (has-none q)
         go (forward k) q = inr (i ∷ k ∷ [], goes (sent (choice i n) j i k q) stays, refl)
-    runs (suc left) n j i = go (entry-at site choice n j i) refl (λ k. runs left (suc n) i k)
+    runs (suc left) n i j = go (entry-at site choice n i j) refl (λ k. runs left (suc n) k i)
       where
-        go : (e : Entry) → entry-at site choice n j i ≡ e
-            → ((k : ℕ) → Follows site choice (suc n) i k (follow site choice left (suc n) i k) ⊎ ((is : List ℕ) × Trail (W old new) (C old new d) i k is × (length is ≡ suc (suc left))))
-            → Follows site choice n j i (arrive i (λ k. leave site i k (follow site choice left (suc n) i k)) e)
+        go : (e : Entry) → entry-at site choice n i j ≡ e
+            → ((k : ℕ) → Follows site choice (suc n) k i (follow site choice left (suc n) k i) ⊎ ((is : List ℕ) × Trail (W old new) (C old new d) i k is × (length is ≡ suc (suc left))))
+            → Follows site choice n i j (arrive i (λ k. leave site i k (follow site choice left (suc n) k i)) e)
             ⊎ ((is : List ℕ) × Trail (W old new) (C old new d) j i is × (length is ≡ suc (suc (suc left))))
         go deliver q ih = inl (delivers q)
         go discard q ih = inl (discards q)
@@ -190,23 +189,23 @@ module _ {old new : Table} {d : ℕ} {site : Site} (𝓣 : Together old new) (�
         go (forward k) q ih = carry (site .carries i k) refl (ih k)
           where
             carry : (c : Bool) → site .carries i k ≡ c
-                → Follows site choice (suc n) i k (follow site choice left (suc n) i k) ⊎ ((is : List ℕ) × Trail (W old new) (C old new d) i k is × (length is ≡ suc (suc left)))
-                → Follows site choice n j i (pick c (crossed i (follow site choice left (suc n) i k)) (ended lost i))
+                → Follows site choice (suc n) k i (follow site choice left (suc n) k i) ⊎ ((is : List ℕ) × Trail (W old new) (C old new d) i k is × (length is ≡ suc (suc left)))
+                → Follows site choice n i j (pick c (crossed i (follow site choice left (suc n) k i)) (ended lost i))
                 ⊎ ((is : List ℕ) × Trail (W old new) (C old new d) j i is × (length is ≡ suc (suc (suc left))))
             carry false f r = inl (loses q f)
             carry true f (inl r) = inl (crosses q f r)
             carry true f (inr (is, t, l)) = inr (i ∷ is, goes (sent (choice i n) j i k q) t, ap suc l)
 
     -- N − 1 hops are enough
-    pub follows : (j i : ℕ) → i < new .routers → Follows site choice 0 j i (follow site choice (new .routers - 1) 0 j i)
-    follows j i b = go (runs (new .routers - 1) 0 j i)
+    pub follows : (j i : ℕ) → i < new .routers → Follows site choice 0 i j (follow site choice (new .routers - 1) 0 i j)
+    follows j i b = go (runs (new .routers - 1) 0 i j)
       where
-        go : {trip : Trip} → Follows site choice 0 j i trip
-            ⊎ ((is : List ℕ) × Trail (W old new) (C old new d) j i is × (length is ≡ suc (suc (new .routers - 1)))) → Follows site choice 0 j i trip
+        go : {trip : Trip} → Follows site choice 0 i j trip
+            ⊎ ((is : List ℕ) × Trail (W old new) (C old new d) j i is × (length is ≡ suc (suc (new .routers - 1)))) → Follows site choice 0 i j trip
         go (inl f) = f
         go (inr (is, t, l)) = absurd (omega (arith, trail-short (nets 𝓣) (both 𝓣) (laws 𝓣 d) (one-change 𝓣) t b))
 
-    pub loopless : (s : ℕ) {trip : Trip} → s < new .routers → d < new .routers → Follows site choice 0 starts-here s trip → Loopless (new .routers) s site choice trip
+    pub loopless : (s : ℕ) {trip : Trip} → s < new .routers → d < new .routers → Follows site choice 0 s starts-here trip → Loopless (new .routers) s site choice trip
     loopless s {trip} b h f = record {
       by-rules = f;
       once = once;

@@ -9,7 +9,7 @@ use lib.Dec.{ltb}
 use lib.ListN.{length, take, drop, length-drop}
 use lib.Seq.{drop-drop}
 use Rattle.rules.specs.Words.{pick, those, All}
-use Rattle.rules.specs.Table.{Record, Kept, name-of, record-in, Judged, accepted, refused, behind, judge, nothing-behind, read, records-of, table-of, says}
+use Rattle.rules.specs.Table.{Record, Kept, name-of, record-in, Judged, accepted, refused, followed-by, judge, nothing-behind, read, records-of, table-of, says}
 use Rattle.rules.specs.Demands.{NamesStand}
 use Rattle.rules.proofs.Basics.{drop-take}
 use Rattle.rules.proofs.Judging.{size-in, Good, Judges, stops, ends, goes, judge-judges}
@@ -26,13 +26,13 @@ module _ (bytes : List ℕ) where
       ∙ ap (take (size-in left)) (sym (drop-drop 3 place bytes) ∙ ap (drop 3) (sym e))
 
   all-stand : {kept : Kept} {place : ℕ} {left : List ℕ} {j : Judged} → Judges kept place left j → left ≡ drop place bytes → All Stands (records-of j)
-  all-stand (stops f) e = tt
+  all-stand (stops q a b) e = tt
   all-stand {kept} {place} {left} (ends g t) e = (stands kept place left g e, tt)
   all-stand {kept} {place} {left} (goes {j = j} g t r) e =
       let further : place + (3 + size-in left) ≡ place + 3 + size-in left = omega arith in
       go j (all-stand r (ap (drop (3 + size-in left)) e ∙ drop-drop (3 + size-in left) place bytes ∙ ap (λ n. drop n bytes) further))
     where
-      go : (j : Judged) → All Stands (records-of j) → All Stands (records-of (behind (record-in place left) j))
+      go : (j : Judged) → All Stands (records-of j) → All Stands (records-of (followed-by (record-in place left) j))
       go (accepted rs end) h = (stands kept place left g e, h)
       go (refused number at) h = tt
 

@@ -10,7 +10,7 @@ use native.Mathlib.Omega.{arith}
 use lib.Dec.{eqb}
 use borrow.Author.Tests.{eq-eqb, ne-eqb}
 use Rattle.rules.specs.Words.{pick, tally, All}
-use Rattle.rules.specs.Table.{Link, Table}
+use Rattle.rules.specs.Layout.{Link, Table}
 use Rattle.rules.specs.Links.{joins, weight-in, weight}
 use Rattle.rules.specs.Pairs.{differing}
 use Rattle.rules.specs.Demands.{Together}

@@ -11,37 +11,8 @@ use lib.Dec.{ltb}
 use lib.ListN.{length, drop, length-append, drop-of-length-le}
 use borrow.Author.Tests.{ltb-false}
 use Rattle.rules.specs.Words.{pick, those, All, Rising}
-use Rattle.rules.specs.Table.{
-  byte,
-  Name,
-  Link,
-  Table,
-  Record,
-  tag-routers,
-  tag-name,
-  tag-link,
-  tag-end,
-  name-of,
-  link-of,
-  key,
-  Kept,
-  nothing-kept,
-  keep,
-  record-in,
-  Judged,
-  accepted,
-  refused,
-  behind,
-  judge,
-  nothing-behind,
-  read,
-  number-of,
-  records-of,
-  routers-of,
-  table-of,
-  says,
-}
-use Rattle.rules.specs.Layout.{Bytes, NameFits, LinkFits, pair, Placed, Obeys, record-bytes, name-bytes, link-bytes, written}
+use Rattle.rules.specs.Layout.{Name, Link, Table, tag-routers, tag-name, tag-link, tag-end, Bytes, NameFits, LinkFits, pair, Placed, Obeys, record-bytes, name-bytes, link-bytes, written}
+use Rattle.rules.specs.Table.{byte, Record, name-of, link-of, key, Kept, nothing-kept, keep, record-in, Judged, accepted, refused, followed-by, judge, nothing-behind, read, number-of, records-of, routers-of, table-of, says}
 use Rattle.rules.proofs.Basics.{All-map}
 use Rattle.rules.proofs.Judging.{size-in, contents-in, Judges, stops, ends, goes, judge-judges}
 use Rattle.rules.proofs.Records.{
@@ -67,29 +38,29 @@ use Rattle.rules.proofs.Records.{
 
 -- what is kept behind the routers record, behind a name and behind a link
 abbrev pub started : ℕ → Kept
-started n = record { routers = n; tag = tag-routers; key = 0; links = 0 }
+started n = record { routers = n; tag = tag-routers; last = 0; links = 0 }
 
 abbrev pub named : Kept → Name → Kept
-named kept m = record { routers = kept .routers; tag = tag-name; key = m .router; links = kept .links }
+named kept m = record { routers = kept .routers; tag = tag-name; last = m .router; links = kept .links }
 
 abbrev pub linked : Kept → Link → Kept
-linked kept l = record { routers = kept .routers; tag = tag-link; key = pair l; links = kept .links + 1 }
+linked kept l = record { routers = kept .routers; tag = tag-link; last = pair l; links = kept .links + 1 }
 
 pub keep-name : (kept : Kept) (place : ℕ) (contents : List ℕ)
     → keep kept (record-at place tag-name contents) ≡ named kept (name-of (record-at place tag-name contents))
 unfolding keep key
-keep-name kept place contents = λ i. record { routers = kept .routers; tag = tag-name; key = byte contents 0; links = add-zero (kept .links) i }
+keep-name kept place contents = λ i. record { routers = kept .routers; tag = tag-name; last = byte contents 0; links = add-zero (kept .links) i }
 
 -- from this place on these names and links may follow what was kept
 pub record Allowed (kept : Kept) (place : ℕ) (names : List Name) (links : List Link) : Type 0 where
   pub names-fit : All (NameFits (kept .routers)) names
   pub names-rise : Rising (map (λ m. m .router) names)
-  pub names-above : kept .tag ≡ tag-name → All (λ k. kept .key < k) (map (λ m. m .router) names)
+  pub names-above : kept .tag ≡ tag-name → All (λ k. kept .last < k) (map (λ m. m .router) names)
   pub names-first : tag-name < kept .tag → names ≡ []
   pub names-placed : Placed place names
   pub links-fit : All (LinkFits (kept .routers)) links
   pub links-rise : Rising (map pair links)
-  pub links-above : kept .tag ≡ tag-link → All (λ k. kept .key < k) (map pair links)
+  pub links-above : kept .tag ≡ tag-link → All (λ k. kept .last < k) (map pair links)
   pub few-links : length links ≤ 256 - kept .links
 
 -- what is above a number is above a lower one
@@ -116,7 +87,7 @@ module _ (kept : Kept) (place : ℕ) where
   add-name m ms ls f at h = record {
     names-fit = (f .fits, h .names-fit);
     names-rise = (h .names-above refl, h .names-rise);
-    names-above = λ e. (f .rises e, above-lower (kept .key) (m .router) (f .rises e) (map (λ m. m .router) ms) (h .names-above refl));
+    names-above = λ e. (f .rises e, above-lower (kept .last) (m .router) (f .rises e) (map (λ m. m .router) ms) (h .names-above refl));
     names-first = λ t. absurd (omega (arith, f .in-turn));
     names-placed = (at, h .names-placed);
     links-fit = h .links-fit;
@@ -135,7 +106,7 @@ module _ (kept : Kept) (place : ℕ) where
     names-placed = tt;
     links-fit = (f .fits, h .links-fit);
     links-rise = (h .links-above refl, h .links-rise);
-    links-above = λ e. (f .rises e, above-lower (kept .key) (pair l) (f .rises e) (map pair ls) (h .links-above refl));
+    links-above = λ e. (f .rises e, above-lower (kept .last) (pair l) (f .rises e) (map pair ls) (h .links-above refl));
     few-links = omega (arith, h .few-links, f .one-more);
   }
 
@@ -266,7 +237,7 @@ Reading kept place left (refused number at) = number ≢ 0
 -- a record that others follow
 reads-on : {tag : ℕ} (kept : Kept) (place : ℕ) (contents rest : List ℕ) (j : Judged) → Known tag → 1 ≤ kept .tag → tag ≢ tag-end → Fine kept tag contents
     → Reading (keep kept (record-at place tag contents)) (place + 3 + length contents) rest j
-    → Reading kept place (record-bytes tag contents ++ rest) (behind (record-at place tag contents) j)
+    → Reading kept place (record-bytes tag contents ++ rest) (followed-by (record-at place tag contents) j)
 unfolding table-of those
 reads-on kept place contents rest (refused number at) k s e f r = r
 reads-on kept place contents rest (accepted rs end) is-routers s e f r = absurd (tag-order kept tag-routers (f .tagged) .no-second s refl)
@@ -283,14 +254,14 @@ reads-last tag kept place contents rest e = rw e (reads-end kept place contents 
 -- behind the routers record, judging reads the bytes that remain
 reads : {kept : Kept} {place : ℕ} {left : List ℕ} {j : Judged} → Judges kept place left j → 1 ≤ kept .tag → Reading kept place left j
 unfolding keep
-reads (stops f) s = f
+reads (stops q a b) s = omega arith
 reads {kept} {place} {left} (ends g e) s =
     as-written kept left g (λ l n. Reading kept place l (accepted (record-in place left ∷ []) (place + 3 + n)))
     (reads-last (byte left 0) kept place (contents-in left) (drop (3 + size-in left) left) e (good-fine kept left g))
 reads {kept} {place} {left} (goes {j = j} g e r) s =
     let o = tag-order kept (byte left 0) (g .tagged) in
     let rest = drop (3 + size-in left) left in
-    as-written kept left g (λ l n. Reading (keep kept (record-in place left)) (place + 3 + n) rest j → Reading kept place l (behind (record-in place left) j))
+    as-written kept left g (λ l n. Reading (keep kept (record-in place left)) (place + 3 + n) rest j → Reading kept place l (followed-by (record-in place left) j))
     (reads-on kept place (contents-in left) rest j (o .is-known) s e (good-fine kept left g)) (reads r (omega (arith, o .not-below)))
 
 -- what judging a whole byte string says of it
@@ -301,7 +272,7 @@ Whole bytes (refused number at) = number ≢ 0
 -- the routers record, and what judging reads behind it
 whole-first : (contents rest : List ℕ) (j : Judged) → Fine nothing-kept tag-routers contents
     → Reading (keep nothing-kept (record-at 0 tag-routers contents)) (3 + length contents) rest j
-    → Whole (record-bytes tag-routers contents ++ rest) (behind (record-at 0 tag-routers contents) j)
+    → Whole (record-bytes tag-routers contents ++ rest) (followed-by (record-at 0 tag-routers contents) j)
 unfolding keep table-of those routers-of record-bytes
 whole-first contents rest (refused number at) f r = r
 whole-first contents rest (accepted rs end) f r = (
@@ -331,17 +302,17 @@ whole-first contents rest (accepted rs end) f r = (
 
 whole-on : (tag : ℕ) (contents rest : List ℕ) (j : Judged) → tag ≡ tag-routers → Fine nothing-kept tag contents
     → Reading (keep nothing-kept (record-at 0 tag contents)) (3 + length contents) rest j
-    → Whole (record-bytes tag contents ++ rest) (behind (record-at 0 tag contents) j)
+    → Whole (record-bytes tag contents ++ rest) (followed-by (record-at 0 tag contents) j)
 whole-on tag contents rest j e = rw e (whole-first contents rest j)
 
 whole : {bytes : List ℕ} {j : Judged} → Judges nothing-kept 0 bytes j → Whole bytes j
 unfolding keep
-whole (stops f) = f
+whole (stops q a b) = omega arith
 whole {bytes} (ends g e) = absurd (omega (arith, tag-order nothing-kept (byte bytes 0) (g .tagged) .first-routers refl))
 whole {bytes} (goes {j = j} g e r) =
     let rest = drop (3 + size-in bytes) bytes in
     let t = tag-order nothing-kept (byte bytes 0) (g .tagged) .first-routers refl in
-    as-written nothing-kept bytes g (λ l n. Reading (keep nothing-kept (record-in 0 bytes)) (3 + n) rest j → Whole l (behind (record-in 0 bytes) j))
+    as-written nothing-kept bytes g (λ l n. Reading (keep nothing-kept (record-in 0 bytes)) (3 + n) rest j → Whole l (followed-by (record-in 0 bytes) j))
     (whole-on (byte bytes 0) (contents-in bytes) rest j t (good-fine nothing-kept bytes g)) (reads r (omega arith))
 
 -- accepted bytes say what obeys the rules, and are what it is written as

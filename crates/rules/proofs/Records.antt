@@ -12,31 +12,8 @@ use lib.ListN.{length, drop, length-drop, length-append, take-append-drop, drop-
 use lib.Seq.{length-take-le, take-at, drop-at, drop-cons, drop-drop}
 use borrow.Author.Tests.{ltb-true, ltb-false, leb-true, leb-false, eqb-true, eqb-false, lt-ltb, le-ltb, le-leb, lt-leb, eq-eqb, ne-eqb, not-false}
 use Rattle.rules.specs.Words.{pick, every}
-use Rattle.rules.specs.Table.{
-  byte,
-  Name,
-  Link,
-  Record,
-  tag-routers,
-  tag-name,
-  tag-link,
-  tag-end,
-  name-of,
-  link-of,
-  known-tag,
-  length-allowed,
-  routers-fit,
-  name-byte,
-  name-fits,
-  link-fits,
-  contents-fit,
-  key,
-  Kept,
-  bad-tag,
-  not-above,
-  too-many,
-}
-use Rattle.rules.specs.Layout.{NameFits, LinkFits, pair, record-bytes}
+use Rattle.rules.specs.Layout.{Name, Link, tag-routers, tag-name, tag-link, tag-end, NameFits, LinkFits, pair, record-bytes}
+use Rattle.rules.specs.Table.{byte, Record, name-of, link-of, known-tag, length-allowed, routers-fit, name-byte, name-fits, link-fits, contents-fit, key, Kept, bad-tag, not-above, too-many}
 use Rattle.rules.proofs.Basics.{both, neither, every-true, true-every}
 use Rattle.rules.proofs.Judging.{Good, size-in, contents-in}
 
@@ -202,16 +179,16 @@ module _ (tag : ℕ) (contents rest : List ℕ) where
 -- ---- what a record says, by its tag
 
 -- a record of the tag before it has a key above the one before it, and the other way round
-above-key : (kept : Kept) (tag : ℕ) (contents : List ℕ) → not-above kept tag contents ≡ false → kept .tag ≡ tag → kept .key < key tag contents
+above-key : (kept : Kept) (tag : ℕ) (contents : List ℕ) → not-above kept tag contents ≡ false → kept .tag ≡ tag → kept .last < key tag contents
 unfolding not-above
-above-key kept tag contents e s = leb-false (key tag contents) (kept .key) (rw (eq-eqb tag (kept .tag) (sym s)) at e)
+above-key kept tag contents e s = leb-false (key tag contents) (kept .last) (rw (eq-eqb tag (kept .tag) (sym s)) at e)
 
-key-above : (kept : Kept) (tag : ℕ) (contents : List ℕ) → (kept .tag ≡ tag → kept .key < key tag contents) → not-above kept tag contents ≡ false
+key-above : (kept : Kept) (tag : ℕ) (contents : List ℕ) → (kept .tag ≡ tag → kept .last < key tag contents) → not-above kept tag contents ≡ false
 unfolding not-above
 key-above kept tag contents f = go (ℕ-discrete (kept .tag) tag)
   where
-    go : Dec (kept .tag ≡ tag) → (eqb tag (kept .tag) && leb (key tag contents) (kept .key)) ≡ false
-    go (yes e) = rw (eq-eqb tag (kept .tag) (sym e), lt-leb (key tag contents) (kept .key) (f e))
+    go : Dec (kept .tag ≡ tag) → (eqb tag (kept .tag) && leb (key tag contents) (kept .last)) ≡ false
+    go (yes e) = rw (eq-eqb tag (kept .tag) (sym e), lt-leb (key tag contents) (kept .last) (f e))
     go (no e) = rw (ne-eqb tag (kept .tag) (λ d. e (sym d)))
 
 -- the last byte of a list
@@ -253,7 +230,7 @@ byte-plain c p = rw (le-leb 0x21 c (p .0), le-leb c 0x7E (p .1))
 pub record NameAllowed (kept : Kept) (m : Name) : Type 0 where
   pub fits : NameFits (kept .routers) m
   pub in-turn : kept .tag ≤ tag-name
-  pub rises : kept .tag ≡ tag-name → kept .key < m .router
+  pub rises : kept .tag ≡ tag-name → kept .last < m .router
 
 pub fine-name : (kept : Kept) (place : ℕ) (contents : List ℕ) → Fine kept tag-name contents
     → (contents ≡ byte contents 0 ∷ drop 1 contents) × NameAllowed kept (name-of (record-at place tag-name contents))
@@ -319,7 +296,7 @@ link-in n l f =
 pub record LinkAllowed (kept : Kept) (l : Link) : Type 0 where
   pub fits : LinkFits (kept .routers) l
   pub in-turn : kept .tag ≤ tag-link
-  pub rises : kept .tag ≡ tag-link → kept .key < pair l
+  pub rises : kept .tag ≡ tag-link → kept .last < pair l
   pub one-more : kept .links < 256
 
 pub fine-link : (kept : Kept) (contents : List ℕ) → Fine kept tag-link contents

@@ -2,7 +2,7 @@
 -- Assumes nothing.
 use mathlib.Core.Path.{_≡_, refl}
 use mathlib.Core.Logic.{_≢_}
-use mathlib.Core.Bool.{Bool, true, false, not}
+use mathlib.Core.Bool.{Bool, true, false}
 use mathlib.Core.List.{List, [], _∷_, _++_, List·Memᴰ, List·Memᴰ·head, List·Memᴰ·tail as next, Memᴰ·append-right}
 use Prim.Native.Nat.{ℕ, zero, suc, _+_, _≤_, _<_}
 use native.Mathlib.Decide.{ℕ-discrete}
@@ -11,27 +11,7 @@ use lib.Dec.{ltb}
 use lib.ListN.{length, drop}
 use borrow.Author.Tests.{ltb-true, eq-eqb, ne-eqb}
 use Rattle.rules.specs.Words.{pick, Line, _when_, first_otherwise_, All}
-use Rattle.rules.specs.Table.{
-  byte,
-  Record,
-  Kept,
-  bad-tag,
-  length-allowed,
-  contents-fit,
-  not-above,
-  too-many,
-  record-in,
-  fault,
-  Judged,
-  accepted,
-  refused,
-  behind,
-  judge,
-  nothing-behind,
-  read,
-  number-of,
-  place-of,
-}
+use Rattle.rules.specs.Table.{Record, Kept, record-in, Judged, accepted, refused, followed-by, judge, nothing-behind, read, number-of, place-of}
 use Rattle.rules.specs.Pairs.{differing, too-different}
 use Rattle.rules.specs.Questions.{
   Refusal,
@@ -40,18 +20,18 @@ use Rattle.rules.specs.Questions.{
   Answer,
   answer,
   afterwards,
-  reading,
-  pairing,
-  filling,
-  filled-costs,
-  filled-sets,
-  entering,
-  interfacing,
-  interfaced,
-  following,
-  traced,
-  naming,
-  naming-of-two,
+  read-answer,
+  pair-answer,
+  fill-answer,
+  costs-after,
+  sets-after,
+  entry-answer,
+  interfaces-answer,
+  interfaces-after,
+  path-answer,
+  trace-after,
+  name-answer,
+  two-names-answer,
 }
 use Rattle.rules.specs.Demands.{
   TableRefusals,
@@ -62,7 +42,7 @@ use Rattle.rules.specs.Demands.{
   NamesNeverCount,
 }
 use Rattle.rules.proofs.Basics.{pick-t, pick-f}
-use Rattle.rules.proofs.Judging.{size-in, contents-in, Judges, stops, ends, goes, judge-judges}
+use Rattle.rules.proofs.Judging.{Judges, stops, ends, goes, judge-judges}
 
 -- what holds of all that an applying line gives, and of what stands behind `otherwise`, holds of the first that applies
 first-holds : {A : Type 0} (P : A → Type 0) (ls : List (Line A)) (a : A) → All (λ l. l .applies ≡ true → P (l .gives)) ls → P a
@@ -76,31 +56,17 @@ first-holds P (l ∷ ls) a hs h = go (l .applies) (hs .0) (first-holds P ls a (h
 
 -- ---- tables
 
-fault-at-most : (kept : Kept) (left : List ℕ) → fault kept left ≤ 6
-unfolding fault
-fault-at-most kept left =
-    first-holds (λ n. n ≤ 6) (
-    1 when ltb (length left) 3
-    ∷ 2 when bad-tag kept (byte left 0)
-    ∷ 3 when not (length-allowed (byte left 0) (size-in left))
-    ∷ 1 when ltb (length left) (3 + size-in left)
-    ∷ 4 when not (contents-fit (kept .routers) (byte left 0) (contents-in left))
-    ∷ 5 when not-above kept (byte left 0) (contents-in left)
-    ∷ 6 when too-many kept (byte left 0)
-    ∷ []
-    ) 0 (omega arith) (omega arith)
-
 -- if it refuses, then by one of 1 to 7
 abbrev By-1-to-7 : Judged → Type 0
 By-1-to-7 (accepted rs end) = Unit {0}
 By-1-to-7 (refused number place) = (1 ≤ number) × (number ≤ 7)
 
 judged-by : {kept : Kept} {place : ℕ} {left : List ℕ} {j : Judged} → Judges kept place left j → By-1-to-7 j
-judged-by {kept} {left = left} (stops f) = omega (arith, fault-at-most kept left)
+judged-by (stops q a b) = omega arith
 judged-by (ends g e) = tt
 judged-by (goes {place = place} {left = left} {j = j} g e r) = go (record-in place left) j (judged-by r)
   where
-    go : (r : Record) (j : Judged) → By-1-to-7 j → By-1-to-7 (behind r j)
+    go : (r : Record) (j : Judged) → By-1-to-7 j → By-1-to-7 (followed-by r j)
     go r (accepted rs end) h = tt
     go r (refused number place) h = h
 
@@ -188,14 +154,14 @@ answered last-table numbers refusals zeros values hs =
     }
 
 pub question-refusals : QuestionRefusals
-unfolding reading pairing filling entering interfacing following naming naming-of-two
+unfolding read-answer pair-answer fill-answer entry-answer interfaces-answer path-answer name-answer two-names-answer
 question-refusals = record {
-  of-reading = λ table. answered _ _ _ _ _ (by-table 0 table (omega arith), tt);
-  of-pairing = λ old new. answered _ _ _ _ _ (by-table 0 old (omega arith), (by-table 1 new (omega arith), (by-number here, tt)));
-  of-filling = λ table d costs sets. answered _ _ _ _ _ (by-table 0 table (omega arith), (by-number here, (by-number (next here), tt)));
-  of-entering = λ table i j d. answered _ _ _ _ _ (by-table 0 table (omega arith), (by-number here, tt));
-  of-interfacing = λ table i out. answered _ _ _ _ _ (by-table 0 table (omega arith), (by-number here, (by-number (next here), tt)));
-  of-following = λ old new s d views trace.
+  of-read = λ table. answered _ _ _ _ _ (by-table 0 table (omega arith), tt);
+  of-pair = λ old new. answered _ _ _ _ _ (by-table 0 old (omega arith), (by-table 1 new (omega arith), (by-number here, tt)));
+  of-fill = λ table d costs sets. answered _ _ _ _ _ (by-table 0 table (omega arith), (by-number here, (by-number (next here), tt)));
+  of-entry = λ table i j d. answered _ _ _ _ _ (by-table 0 table (omega arith), (by-number here, tt));
+  of-interfaces = λ table i out. answered _ _ _ _ _ (by-table 0 table (omega arith), (by-number here, (by-number (next here), tt)));
+  of-path = λ old new s d views trace.
       answered _ _ _ _ _ (
         by-table 0 old (omega arith),
         (
@@ -203,8 +169,8 @@ question-refusals = record {
           (by-number here, (by-number (next here), (by-number (next (next (next here))), (by-number (next (next here)), tt)))),
         ),
       );
-  of-naming = λ table i. answered _ _ _ _ _ (by-table 0 table (omega arith), (by-number here, tt));
-  of-naming-of-two = λ old new i. answered _ _ _ _ _ (by-table 0 old (omega arith), (by-table 1 new (omega arith), (by-number here, tt)));
+  of-name = λ table i. answered _ _ _ _ _ (by-table 0 table (omega arith), (by-number here, tt));
+  of-two-names = λ old new i. answered _ _ _ _ _ (by-table 0 old (omega arith), (by-table 1 new (omega arith), (by-number here, tt)));
 }
 
 -- where nothing is refused the values are given
@@ -224,12 +190,12 @@ unfolding afterwards
 stays a written lent r = pick-f _ _ _ (ne-eqb (a .refusal .number) 0 r)
 
 pub lent-outputs-stay : LentOutputsStay
-unfolding filled-costs filled-sets interfaced traced
+unfolding costs-after sets-after interfaces-after trace-after
 lent-outputs-stay = record {
-  costs-stay = λ table d costs sets. stays (filling table d costs sets) _ costs;
-  sets-stay = λ table d costs sets. stays (filling table d costs sets) _ sets;
-  table-stays = λ table i out. stays (interfacing table i out) _ out;
-  trace-stays = λ old new s d views trace. stays (following old new s d views trace) _ trace;
+  costs-stay = λ table d costs sets. stays (fill-answer table d costs sets) _ costs;
+  sets-stay = λ table d costs sets. stays (fill-answer table d costs sets) _ sets;
+  table-stays = λ table i out. stays (interfaces-answer table i out) _ out;
+  trace-stays = λ old new s d views trace. stays (path-answer old new s d views trace) _ trace;
 }
 
 -- ---- names

@@ -13,8 +13,7 @@ use lib.Count.{ones, trailingZeros, onesIn, ones-cat}
 use lib.Pow.{pow-mono, shr-shr, high, low, mod-pow-add, mod-mod-pow, field}
 use borrow.Author.Tests.{eqb-true, eq-eqb, ltb-true, lt-ltb}
 use Rattle.rules.specs.Words.{pick, count}
-use Rattle.rules.specs.Table.{Table}
-use Rattle.rules.specs.Layout.{Obeys}
+use Rattle.rules.specs.Layout.{Table, Obeys}
 use Rattle.rules.specs.Links.{weight}
 use Rattle.rules.specs.Costs.{no-cost, cost}
 use Rattle.rules.specs.NextHops.{has, set-of, seek, chosen, size, leads, next-hops}
@@ -219,10 +218,10 @@ chosen-by-bits set b = record {
 
 pub sets-fit : SetsFit
 unfolding next-hops
-sets-fit t o i d = lt-of-lt-of-le (set-below (leads t d i) (t .routers)) (pow-mono (o .few-routers))
+sets-fit t o i d = lt-of-lt-of-le (set-below (leads t i d) (t .routers)) (pow-mono (o .few-routers))
 
 -- the test that makes the set
-leads-next : (t : Table) (d i k : ℕ) → (leads t d i k ≡ true) ↔ Next (weight t) (λ z. cost t z d) i k
+leads-next : (t : Table) (d i k : ℕ) → (leads t i d k ≡ true) ↔ Next (weight t) (λ z. cost t z d) i k
 unfolding leads
 leads-next t d i k = (
   λ e. let b = both (ltb 0 (weight t i k)) (eqb (weight t i k + cost t k d) (cost t i d)) e in
@@ -234,17 +233,17 @@ leads-next t d i k = (
 pub has-next : (t : Table) → Obeys t → (i d k : ℕ) → (has (next-hops t i d) k ≡ true) ↔ Next (weight t) (λ z. cost t z d) i k
 unfolding next-hops
 has-next t o i d k = (
-  λ e. leads-next t d i k .0 (sym (set-has (leads t d i) (t .routers) k (inside e)) ∙ e),
-  λ s. set-has (leads t d i) (t .routers) k (net t o .inside i k (s .link) .1) ∙ leads-next t d i k .1 s,
+  λ e. leads-next t d i k .0 (sym (set-has (leads t i d) (t .routers) k (inside e)) ∙ e),
+  λ s. set-has (leads t i d) (t .routers) k (net t o .inside i k (s .link) .1) ∙ leads-next t d i k .1 s,
 )
   where
-    inside : has (set-of (leads t d i) (t .routers)) k ≡ true → k < t .routers
+    inside : has (set-of (leads t i d) (t .routers)) k ≡ true → k < t .routers
     inside e = go (decLt k (t .routers))
       where
         go : Dec (k < t .routers) → k < t .routers
         go (yes l) = l
         go (no l) =
-            absurd (false≢true (sym (has-below (set-of (leads t d i) (t .routers)) (t .routers) k (set-below (leads t d i) (t .routers)) (omega arith)) ∙ e))
+            absurd (false≢true (sym (has-below (set-of (leads t i d) (t .routers)) (t .routers) k (set-below (leads t i d) (t .routers)) (omega arith)) ∙ e))
 
 pub sets-have-neighbours : SetsHaveNeighbours
 sets-have-neighbours t o i d k = (
@@ -255,9 +254,9 @@ sets-have-neighbours t o i d k = (
 -- where no router is a next hop the set is empty
 nobody : (t : Table) (i d : ℕ) → ((k : ℕ) → ¬ Next (weight t) (λ z. cost t z d) i k) → next-hops t i d ≡ 0
 unfolding next-hops
-nobody t i d h = set-none (leads t d i) (λ k. go k (leads t d i k) refl) (t .routers)
+nobody t i d h = set-none (leads t i d) (λ k. go k (leads t i d k) refl) (t .routers)
   where
-    go : (k : ℕ) (b : Bool) → leads t d i k ≡ b → b ≡ false
+    go : (k : ℕ) (b : Bool) → leads t i d k ≡ b → b ≡ false
     go k true e = absurd (h k (leads-next t d i k .0 e))
     go k false e = refl
 

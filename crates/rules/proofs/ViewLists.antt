@@ -22,20 +22,20 @@ module _ (site : Site) (choice choice′ : Choice) where
   Agree n trip = (m : ℕ) → m < decisions trip → choice′ (getD (trip .trace) m starts-here) (n + m) ≡ choice (getD (trip .trace) m starts-here) (n + m)
 
   -- the router that the packet stands at decides alike
-  alike : (n j i : ℕ) {e : Entry} → entry-at site choice n j i ≡ e → choice′ i (n + 0) ≡ choice i (n + 0) → entry-at site choice′ n j i ≡ e
-  alike n j i q e =
+  alike : (n i j : ℕ) {e : Entry} → entry-at site choice n i j ≡ e → choice′ i (n + 0) ≡ choice i (n + 0) → entry-at site choice′ n i j ≡ e
+  alike n i j q e =
       let e′ : choice′ i n ≡ choice i n = rw (add-zero n) at e in
-      ap (λ v. entry-by (site .ways v) i j (site .destination)) e′ ∙ q
+      ap (λ v. entry-by (site .rules v) i j (site .destination)) e′ ∙ q
 
-  pub same-views : {n j i : ℕ} {trip : Trip} → Follows site choice n j i trip → Agree n trip → Follows site choice′ n j i trip
-  same-views (delivers {n} {j} {i} e) a =
-      delivers (home-delivers (site .ways (choice′ i n)) i j (site .destination) (delivers-home (site .ways (choice i n)) i j (site .destination) e))
-  same-views (discards {n} {j} {i} e) a = discards (alike n j i e (a 0 (omega arith)))
-  same-views (has-none {n} {j} {i} e) a = has-none (alike n j i e (a 0 (omega arith)))
-  same-views (loses {n} {j} {i} e c) a = loses (alike n j i e (a 0 (omega arith))) c
-  same-views (crosses {n} {j} {i} {k} {onward = rest} e c r) a =
+  pub same-views : {n i j : ℕ} {trip : Trip} → Follows site choice n i j trip → Agree n trip → Follows site choice′ n i j trip
+  same-views (delivers {n} {i} {j} e) a =
+      delivers (home-delivers (site .rules (choice′ i n)) i j (site .destination) (delivers-home (site .rules (choice i n)) i j (site .destination) e))
+  same-views (discards {n} {i} {j} e) a = discards (alike n i j e (a 0 (omega arith)))
+  same-views (has-none {n} {i} {j} e) a = has-none (alike n i j e (a 0 (omega arith)))
+  same-views (loses {n} {i} {j} e c) a = loses (alike n i j e (a 0 (omega arith))) c
+  same-views (crosses {n} {i} {j} {k} {onward = rest} e c r) a =
       let s = deciders-suc (rest .outcome) (rest .hops) in
-      crosses (alike n j i e (a 0 (omega arith))) c (same-views r (λ m l. rw (shift m) (a (suc m) (omega arith))))
+      crosses (alike n i j e (a 0 (omega arith))) c (same-views r (λ m l. rw (shift m) (a (suc m) (omega arith))))
     where
       shift : (m : ℕ) → suc n + m ≡ n + suc m
       shift m = omega arith
@@ -73,7 +73,7 @@ views-say choice m trace i n h =
     go new-view = refl
 
 -- a list of m bytes gives the path of a choice whose decisions are m at most
-pub listed-follows : (site : Site) (choice : Choice) (j i m : ℕ) {trip : Trip} → Follows site choice 0 j i trip → decisions trip ≤ m
-    → Follows site (listed (views-of choice m (trip .trace))) 0 j i trip
+pub listed-follows : (site : Site) (choice : Choice) (j i m : ℕ) {trip : Trip} → Follows site choice 0 i j trip → decisions trip ≤ m
+    → Follows site (listed (views-of choice m (trip .trace))) 0 i j trip
 listed-follows site choice j i m {trip} f h =
     same-views site choice (listed (views-of choice m (trip .trace))) f (λ k l. rw (zero-add k) (views-say choice m (trip .trace) (getD (trip .trace) k starts-here) k (omega arith)))

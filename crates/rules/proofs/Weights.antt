@@ -9,8 +9,7 @@ use native.Mathlib.Omega.{arith}
 use lib.Dec.{eqb}
 use borrow.Author.Tests.{eqb-true, eq-eqb}
 use Rattle.rules.specs.Words.{pick, All, Rising}
-use Rattle.rules.specs.Table.{Link, Table}
-use Rattle.rules.specs.Layout.{LinkFits, pair, Obeys}
+use Rattle.rules.specs.Layout.{Link, Table, LinkFits, pair, Obeys}
 use Rattle.rules.specs.Links.{joins, weight-in, weight}
 use Rattle.rules.proofs.Basics.{All-zip}
 use Rattle.rules.proofs.CostLaws.{Net, BothWays}

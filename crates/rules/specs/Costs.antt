@@ -1,7 +1,7 @@
 -- Costs: the document's sentence, and an executable function that is shown to meet it.
 use Prim.Native.Nat.{ℕ, zero, suc, _+_, _≤_, _<_, min}
 use Rattle.rules.specs.Words.{_=?_, pick}
-use Rattle.rules.specs.Table.{Table}
+use Rattle.rules.specs.Layout.{Table}
 use Rattle.rules.specs.Links.{weight}
 use Rattle.rules.specs.Routes.{Route}
 

@@ -7,8 +7,8 @@ use Prim.Native.Nat.{ℕ, suc, _+_, _-_, _*_, _^_, _≤_, _<_}
 use lib.ListN.{length, getD, take, drop}
 use lib.Count.{ones, trailingZeros}
 use Rattle.rules.specs.Words.{_<?_, All, Distinct}
-use Rattle.rules.specs.Table.{Table, Name, refused, read, number-of, place-of, says}
-use Rattle.rules.specs.Layout.{Bytes, Obeys, written}
+use Rattle.rules.specs.Layout.{Table, Name, Bytes, Obeys, written}
+use Rattle.rules.specs.Table.{refused, read, number-of, place-of, says}
 use Rattle.rules.specs.Links.{weight}
 use Rattle.rules.specs.Pairs.{differing, too-different}
 use Rattle.rules.specs.Routes.{Route}
@@ -16,7 +16,7 @@ use Rattle.rules.specs.Costs.{LeastCost, no-cost, cost}
 use Rattle.rules.specs.NextHops.{has, chosen, size, next-hops}
 use Rattle.rules.specs.Entries.{deliver, discard, no-route, forward, starts-here}
 use Rattle.rules.specs.Paths.{View, new-view, by, Choice, listed, Outcome, delivered, discarded, unrouted, lost, Trip, ended, crossed, Site, entry-at, follow, site-of, path}
-use Rattle.rules.specs.Questions.{Answer, reading, pairing, filling, filled-costs, filled-sets, entering, interfacing, interfaced, following, ending, traced, trip-of, naming, naming-of-two}
+use Rattle.rules.specs.Questions.{Answer, read-answer, pair-answer, fill-answer, costs-after, sets-after, entry-answer, interfaces-answer, interfaces-after, path-answer, ending, trace-after, trip-of, name-answer, two-names-answer}
 
 -- ==== Demand 1: each question is answered or refused by a listed number, and a refusal changes no lent memory
 
@@ -59,23 +59,23 @@ pub record RefusedBy {A : Type 0} (last-table : ℕ) (numbers : List ℕ) (zeros
   pub else-zero : a .refusal .number ≢ 0 → a .values ≡ zeros
 
 pub record QuestionRefusals : Type 0 where
-  pub of-reading : (table : List ℕ) → RefusedBy 0 (table-numbers []) (record { routers = 0; links = 0 }) (reading table)
-  pub of-pairing : (old new : List ℕ) → RefusedBy 1 (table-numbers (8 ∷ [])) (record { routers = 0; differ = 0 }) (pairing old new)
-  pub of-filling : (table : List ℕ) (d : ℕ) (costs sets : List ℕ) → RefusedBy 0 (table-numbers (9 ∷ 10 ∷ [])) 0 (filling table d costs sets)
-  pub of-entering : (table : List ℕ) (i j d : ℕ) → RefusedBy 0 (table-numbers (9 ∷ [])) 0 (entering table i j d)
-  pub of-interfacing : (table : List ℕ) (i : ℕ) (out : List ℕ) → RefusedBy 0 (table-numbers (9 ∷ 10 ∷ [])) 0 (interfacing table i out)
-  pub of-following : (old new : List ℕ) (s d : ℕ) (views trace : List ℕ)
-      → RefusedBy 1 (table-numbers (8 ∷ 9 ∷ 10 ∷ 11 ∷ [])) (record { router = 0; hops = 0; outcome = 0 }) (following old new s d views trace)
-  pub of-naming : (table : List ℕ) (i : ℕ) → RefusedBy 0 (table-numbers (9 ∷ [])) 0 (naming table i)
-  pub of-naming-of-two : (old new : List ℕ) (i : ℕ) → RefusedBy 1 (table-numbers (9 ∷ [])) 0 (naming-of-two old new i)
+  pub of-read : (table : List ℕ) → RefusedBy 0 (table-numbers []) (record { routers = 0; links = 0 }) (read-answer table)
+  pub of-pair : (old new : List ℕ) → RefusedBy 1 (table-numbers (8 ∷ [])) (record { routers = 0; differ = 0 }) (pair-answer old new)
+  pub of-fill : (table : List ℕ) (d : ℕ) (costs sets : List ℕ) → RefusedBy 0 (table-numbers (9 ∷ 10 ∷ [])) 0 (fill-answer table d costs sets)
+  pub of-entry : (table : List ℕ) (i j d : ℕ) → RefusedBy 0 (table-numbers (9 ∷ [])) 0 (entry-answer table i j d)
+  pub of-interfaces : (table : List ℕ) (i : ℕ) (out : List ℕ) → RefusedBy 0 (table-numbers (9 ∷ 10 ∷ [])) 0 (interfaces-answer table i out)
+  pub of-path : (old new : List ℕ) (s d : ℕ) (views trace : List ℕ)
+      → RefusedBy 1 (table-numbers (8 ∷ 9 ∷ 10 ∷ 11 ∷ [])) (record { router = 0; hops = 0; outcome = 0 }) (path-answer old new s d views trace)
+  pub of-name : (table : List ℕ) (i : ℕ) → RefusedBy 0 (table-numbers (9 ∷ [])) 0 (name-answer table i)
+  pub of-two-names : (old new : List ℕ) (i : ℕ) → RefusedBy 1 (table-numbers (9 ∷ [])) 0 (two-names-answer old new i)
 
 -- a refusal changes no lent output
 pub record LentOutputsStay : Type 0 where
-  pub costs-stay : (table : List ℕ) (d : ℕ) (costs sets : List ℕ) → filling table d costs sets .refusal .number ≢ 0 → filled-costs table d costs sets ≡ costs
-  pub sets-stay : (table : List ℕ) (d : ℕ) (costs sets : List ℕ) → filling table d costs sets .refusal .number ≢ 0 → filled-sets table d costs sets ≡ sets
-  pub table-stays : (table : List ℕ) (i : ℕ) (out : List ℕ) → interfacing table i out .refusal .number ≢ 0 → interfaced table i out ≡ out
+  pub costs-stay : (table : List ℕ) (d : ℕ) (costs sets : List ℕ) → fill-answer table d costs sets .refusal .number ≢ 0 → costs-after table d costs sets ≡ costs
+  pub sets-stay : (table : List ℕ) (d : ℕ) (costs sets : List ℕ) → fill-answer table d costs sets .refusal .number ≢ 0 → sets-after table d costs sets ≡ sets
+  pub table-stays : (table : List ℕ) (i : ℕ) (out : List ℕ) → interfaces-answer table i out .refusal .number ≢ 0 → interfaces-after table i out ≡ out
   pub trace-stays : (old new : List ℕ) (s d : ℕ) (views trace : List ℕ)
-      → following old new s d views trace .refusal .number ≢ 0 → traced old new s d views trace ≡ trace
+      → path-answer old new s d views trace .refusal .number ≢ 0 → trace-after old new s d views trace ≡ trace
 
 -- names never count as a difference between tables
 abbrev pub NamesNeverCount : Type 0
@@ -159,13 +159,13 @@ ChosenByBits = (set : ℕ) → set < 2 ^ 64 → ByBits set
 -- ---- following as a relation: what arriving and leaving give, however many hops it takes
 
 pub data Follows (site : Site) (choice : Choice) : ℕ → ℕ → ℕ → Trip → Type 0 where
-  delivers : {n j i : ℕ} → entry-at site choice n j i ≡ deliver → Follows site choice n j i (ended delivered i)
-  discards : {n j i : ℕ} → entry-at site choice n j i ≡ discard → Follows site choice n j i (ended discarded i)
-  has-none : {n j i : ℕ} → entry-at site choice n j i ≡ no-route → Follows site choice n j i (ended unrouted i)
-  loses : {n j i k : ℕ} → entry-at site choice n j i ≡ forward k → site .carries i k ≡ false
-      → Follows site choice n j i (ended lost i)
-  crosses : {n j i k : ℕ} {onward : Trip} → entry-at site choice n j i ≡ forward k → site .carries i k ≡ true
-      → Follows site choice (suc n) i k onward → Follows site choice n j i (crossed i onward)
+  delivers : {n i j : ℕ} → entry-at site choice n i j ≡ deliver → Follows site choice n i j (ended delivered i)
+  discards : {n i j : ℕ} → entry-at site choice n i j ≡ discard → Follows site choice n i j (ended discarded i)
+  has-none : {n i j : ℕ} → entry-at site choice n i j ≡ no-route → Follows site choice n i j (ended unrouted i)
+  loses : {n i j k : ℕ} → entry-at site choice n i j ≡ forward k → site .carries i k ≡ false
+      → Follows site choice n i j (ended lost i)
+  crosses : {n i j k : ℕ} {onward : Trip} → entry-at site choice n i j ≡ forward k → site .carries i k ≡ true
+      → Follows site choice (suc n) k i onward → Follows site choice n i j (crossed i onward)
 
 -- ---- what is asked
 
@@ -180,15 +180,15 @@ pub record Together (old new : Table) : Type 0 where
 -- links that carry.
 pub record Permitted (old new : Table) (d : ℕ) (site : Site) : Type 0 where
   pub for-d : site .destination ≡ d
-  pub knows : (v : View) (i : ℕ) → site .ways v .has-route i ≡ (cost (by v old new) i d <? no-cost)
-  pub member : (v : View) (i : ℕ) → i ≢ d → cost (by v old new) i d < no-cost → has (next-hops (by v old new) i d) (site .ways v .hop i) ≡ true
-  pub drops : (v : View) (i j : ℕ) → has (next-hops (by v old new) i d) j ≡ true → site .ways v .discards i j ≡ true
+  pub knows : (v : View) (i : ℕ) → site .rules v .has-route i ≡ (cost (by v old new) i d <? no-cost)
+  pub member : (v : View) (i : ℕ) → i ≢ d → cost (by v old new) i d < no-cost → has (next-hops (by v old new) i d) (site .rules v .hop i) ≡ true
+  pub drops : (v : View) (i j : ℕ) → has (next-hops (by v old new) i d) j ≡ true → site .rules v .discards i j ≡ true
 
 -- With all views new: rules that drop neither what starts here nor what comes from a router whose set has this one, and links that carry where
 -- the new table has one.
 pub record Willing (new : Table) (d : ℕ) (site : Site) : Type 0 where
-  pub starts-on : (i : ℕ) → site .ways new-view .discards i starts-here ≡ false
-  pub goes-on : (i j : ℕ) → has (next-hops new j d) i ≡ true → site .ways new-view .discards i j ≡ false
+  pub starts-on : (i : ℕ) → site .rules new-view .discards i starts-here ≡ false
+  pub goes-on : (i j : ℕ) → has (next-hops new j d) i ≡ true → site .rules new-view .discards i j ≡ false
   pub carried : (i k : ℕ) → 0 < weight new i k → site .carries i k ≡ true
 
 -- ---- what is promised
@@ -217,7 +217,7 @@ decisions trip = deciders (trip .outcome) (trip .hops)
 
 pub record Loopless (routers s : ℕ) (site : Site) (choice : Choice) (trip : Trip) : Type 0 where
   -- the answer is what arriving and leaving give: the bound on the hops is never met
-  pub by-rules : Follows site choice 0 starts-here s trip
+  pub by-rules : Follows site choice 0 s starts-here trip
   -- no router twice
   pub once : Distinct (trip .trace)
   -- hops + 1 routers, from the source to where the packet ended
@@ -232,7 +232,7 @@ pub record Loopless (routers s : ℕ) (site : Site) (choice : Choice) (trip : Tr
   pub enough : decisions trip ≤ routers - 1
 
 -- where all views are new: nothing is discarded or lost, a finite cost arrives at that cost, and no route is told at the source
-pub record Delivered (new : Table) (s d : ℕ) (trip : Trip) : Type 0 where
+pub record AtLeastCost (new : Table) (s d : ℕ) (trip : Trip) : Type 0 where
   pub not-discarded : trip .outcome ≢ discarded
   pub not-lost : trip .outcome ≢ lost
   pub arrives : cost new s d < no-cost → (trip .outcome ≡ delivered) × (trip .router ≡ d) × (total (weight new) (trip .trace) ≡ cost new s d)
@@ -244,17 +244,17 @@ AllNew routers choice = (i n : ℕ) → n < routers - 1 → choice i n ≡ new-v
 
 -- For any permitted rules, any links that carry, and views chosen by anyone (proofs/LoopFree, proofs/AllNew, proofs/ViewLists):
 pub record Demand3 (old new : Table) (s d : ℕ) (site : Site) (choice : Choice) : Type 0 where
-  pub loopless : Loopless (new .routers) s site choice (follow site choice (new .routers - 1) 0 starts-here s)
-  pub only : (trip : Trip) → Follows site choice 0 starts-here s trip → trip ≡ follow site choice (new .routers - 1) 0 starts-here s
-  pub all-new : Willing new d site → AllNew (new .routers) choice → Delivered new s d (follow site choice (new .routers - 1) 0 starts-here s)
+  pub loopless : Loopless (new .routers) s site choice (follow site choice (new .routers - 1) 0 s starts-here)
+  pub only : (trip : Trip) → Follows site choice 0 s starts-here trip → trip ≡ follow site choice (new .routers - 1) 0 s starts-here
+  pub all-new : Willing new d site → AllNew (new .routers) choice → AtLeastCost new s d (follow site choice (new .routers - 1) 0 s starts-here)
   -- N − 1 views are enough: no later choice is ever asked for
   pub early : (choice′ : Choice) → ((i n : ℕ) → n < new .routers - 1 → choice′ i n ≡ choice i n)
-      → follow site choice′ (new .routers - 1) 0 starts-here s ≡ follow site choice (new .routers - 1) 0 starts-here s
+      → follow site choice′ (new .routers - 1) 0 s starts-here ≡ follow site choice (new .routers - 1) 0 s starts-here
   -- some list of N − 1 bytes, each 0 or 1, gives the same path
   pub some-list : (views : List ℕ)
       × (length views ≡ new .routers - 1)
       × All (λ v. v ≤ 1) views
-      × (follow site (listed views) (new .routers - 1) 0 starts-here s ≡ follow site choice (new .routers - 1) 0 starts-here s)
+      × (follow site (listed views) (new .routers - 1) 0 s starts-here ≡ follow site choice (new .routers - 1) 0 s starts-here)
 
 abbrev pub Demand3ForAnyRules : Type 0
 Demand3ForAnyRules =
@@ -274,7 +274,7 @@ pub record AcceptedTogether (old new : List ℕ) : Type 0 where
 pub record Demand3OfBase (old new : Table) (s d : ℕ) (choice : Choice) : Type 0 where
   pub loopless : Loopless (new .routers) s (site-of old new d) choice (path old new choice s d)
   pub over-new-links : Hops (λ i k. 0 < weight new i k) (path old new choice s d .trace)
-  pub all-new : AllNew (new .routers) choice → Delivered new s d (path old new choice s d)
+  pub all-new : AllNew (new .routers) choice → AtLeastCost new s d (path old new choice s d)
 
 abbrev pub Demand3ForAccepted : Type 0
 Demand3ForAccepted =
@@ -285,16 +285,16 @@ Demand3ForAccepted =
 -- and every router that decides finds its byte in the list.
 pub record Demand3Answered (old new : List ℕ) (s d : ℕ) (views trace : List ℕ) : Type 0 where
   pub demand3 : Demand3OfBase (says old) (says new) s d (listed views)
-  pub answered : following old new s d views trace .values ≡ ending (trip-of old new s d views)
-  pub written-trace : traced old new s d views trace ≡ trip-of old new s d views .trace ++ drop (suc (trip-of old new s d views .hops)) trace
-  pub same-length : length (traced old new s d views trace) ≡ length trace
+  pub answered : path-answer old new s d views trace .values ≡ ending (trip-of old new s d views)
+  pub written-trace : trace-after old new s d views trace ≡ trip-of old new s d views .trace ++ drop (suc (trip-of old new s d views .hops)) trace
+  pub same-length : length (trace-after old new s d views trace) ≡ length trace
   pub bytes-found : decisions (trip-of old new s d views) ≤ length views
   pub bytes-good : All (λ v. v ≤ 1) (take (says new .routers - 1) views)
 
 abbrev pub Demand3ForQuestions : Type 0
 Demand3ForQuestions =
     (old new : List ℕ) (s d : ℕ) (views trace : List ℕ)
-    → following old new s d views trace .refusal .number ≡ 0 → Demand3Answered old new s d views trace
+    → path-answer old new s d views trace .refusal .number ≡ 0 → Demand3Answered old new s d views trace
 
 -- ==== Promises: two answers that a promise allows are equal (proofs/Uniqueness)
 

@@ -3,7 +3,7 @@ use mathlib.Core.Bool.{Bool, not}
 use mathlib.Core.List.{List, [], _∷_, map, flatten}
 use Prim.Native.Nat.{ℕ}
 use Rattle.rules.specs.Words.{_=?_, _<?_, pick, _when_, first_otherwise_, below}
-use Rattle.rules.specs.Table.{Table}
+use Rattle.rules.specs.Layout.{Table}
 use Rattle.rules.specs.Costs.{cost, no-cost}
 use Rattle.rules.specs.NextHops.{has, chosen, next-hops}
 
@@ -13,23 +13,23 @@ pub data Entry : Type 0 where
 
 -- What the entries of one view for one destination are made of: whether router i has a route, whether it discards a packet that comes from
 -- router j, and the hop that it forwards to.
-pub record Ways : Type 0 where
+pub record Rules : Type 0 where
   pub has-route : ℕ → Bool
   pub discards : ℕ → ℕ → Bool
   pub hop : ℕ → ℕ
 
 -- router i, previous hop j, destination d: the first line that applies
-unfoldable pub entry-by : Ways → ℕ → ℕ → ℕ → Entry
-entry-by ways i j d =
+unfoldable pub entry-by : Rules → ℕ → ℕ → ℕ → Entry
+entry-by rules i j d =
     first deliver when (i =? d)
-    ∷ no-route when not (ways .has-route i)
-    ∷ discard when ways .discards i j
+    ∷ no-route when not (rules .has-route i)
+    ∷ discard when rules .discards i j
     ∷ []
-    otherwise forward (ways .hop i)
+    otherwise forward (rules .hop i)
 
 -- The rules of the base: PIPO discards where j is any member of the next-hop set, and the hop is the chosen one.
-unfoldable pub ways : Table → ℕ → Ways
-ways t d = record {
+unfoldable pub rules-of : Table → ℕ → Rules
+rules-of t d = record {
   has-route = λ i. cost t i d <? no-cost;
   discards = λ i j. has (next-hops t i d) j;
   hop = λ i. chosen (next-hops t i d);
@@ -40,7 +40,7 @@ abbrev pub starts-here : ℕ
 starts-here = 255
 
 unfoldable pub entry : Table → ℕ → ℕ → ℕ → Entry
-entry t i j d = entry-by (ways t d) i j d
+entry t i j d = entry-by (rules-of t d) i j d
 
 -- ---- the full interface table
 

@@ -4,7 +4,7 @@ use mathlib.Core.List.{List, [], _∷_, _++_, map}
 use Prim.Native.Nat.{ℕ}
 use lib.ListN.{replicate}
 use Rattle.rules.specs.Words.{_=?_, pick, text}
-use Rattle.rules.specs.Questions.{reading, following, traced, interfaced}
+use Rattle.rules.specs.Questions.{read-answer, path-answer, trace-after, interfaces-after}
 use Rattle.rules.specs.Listing.{listing}
 
 -- ---- tables
@@ -58,11 +58,11 @@ lent = replicate 8 0xEE
 
 unfoldable pub reply : Question → Reply
 reply (reads table) =
-    let a = reading table in
+    let a = read-answer table in
     pick (a .refusal .number =? 0) (accepts (a .values .routers) (a .values .links)) (refuses (a .refusal .number) (a .refusal .place))
 reply (follows old new s d views) =
-    let a = following old new s d views lent in
-    pick (a .refusal .number =? 0) (ends (a .values .outcome) (a .values .router) (a .values .hops) (traced old new s d views lent))
+    let a = path-answer old new s d views lent in
+    pick (a .refusal .number =? 0) (ends (a .values .outcome) (a .values .router) (a .values .hops) (trace-after old new s d views lent))
     (refuses (a .refusal .number) (a .refusal .place))
 
 abbrev O : ℕ
@@ -118,7 +118,7 @@ BenchExamples = map reply questions ≡ replies
 
 abbrev pub InterfaceExample : Type 0
 InterfaceExample =
-    interfaced triangle-old 0 (replicate 13 0xEE)
+    interfaces-after triangle-old 0 (replicate 13 0xEE)
     ≡ 128 ∷ 1 ∷ 1 ∷ 131 ∷ 131 ∷ 131 ∷ 128 ∷ 129 ∷ 129 ∷ 128 ∷ 1 ∷ 1 ∷ 0xEE ∷ []
 
 -- ---- listings: of the square, of two routers without a link, and of a refused table

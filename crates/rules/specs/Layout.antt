@@ -1,14 +1,29 @@
--- The layout without judging: the rules that a table's routers, names and links obey, and the bytes that say them.
+-- The table's bytes: what a table says, the rules that it obeys, and the bytes that say it.
 use mathlib.Core.Path.{_≡_}
 use mathlib.Core.List.{List, [], _∷_, _++_, map, flatten}
 use Prim.Native.Nat.{ℕ, _+_, _*_, _/_, _%_, _≤_, _<_}
 use lib.ListN.{length}
 use Rattle.rules.specs.Words.{All, Rising}
-use Rattle.rules.specs.Table.{Name, Link, Table, tag-routers, tag-name, tag-link, tag-end}
 
--- every number is one byte
-abbrev pub Bytes : List ℕ → Type 0
-Bytes bytes = All (λ c. c < 256) bytes
+-- ---- what a table says
+
+-- the name of a router, and the place of the name's first byte in the table
+pub record Name : Type 0 where
+  pub router : ℕ
+  pub place : ℕ
+  pub bytes : List ℕ
+
+-- a link between router a and router b, whose weight holds both ways
+pub record Link : Type 0 where
+  pub a : ℕ
+  pub b : ℕ
+  pub weight : ℕ
+
+-- the routers are 0 to N − 1
+pub record Table : Type 0 where
+  pub routers : ℕ
+  pub names : List Name
+  pub links : List Link
 
 -- ---- the rules
 
@@ -24,7 +39,7 @@ pub record LinkFits (n : ℕ) (l : Link) : Type 0 where
   pub weighs : 1 ≤ l .weight
   pub weight-fits : l .weight ≤ 65535
 
--- the pair (a, b) of a link as one number of two bytes
+-- the pair (a, b) of a link as one number of two bytes, which rises as the pair does
 abbrev pub pair : Link → ℕ
 pair l = l .a * 256 + l .b
 
@@ -38,12 +53,29 @@ pub record Obeys (t : Table) : Type 0 where
   pub few-routers : t .routers ≤ 64
   pub names-fit : All (NameFits (t .routers)) (t .names)
   pub names-rise : Rising (map (λ m. m .router) (t .names))
-  pub names-placed : Placed 4 (t .names)
   pub links-fit : All (LinkFits (t .routers)) (t .links)
   pub links-rise : Rising (map pair (t .links))
   pub few-links : length (t .links) ≤ 256
+  -- the places are those of the bytes below, where the names begin at place 4
+  pub names-placed : Placed 4 (t .names)
 
--- ---- the bytes: the records of a table in order
+-- ---- the bytes: one byte tag, two bytes length, high byte first, then the contents
+
+-- every number is one byte
+abbrev pub Bytes : List ℕ → Type 0
+Bytes bytes = All (λ c. c < 256) bytes
+
+abbrev pub tag-routers : ℕ
+tag-routers = 0x01
+
+abbrev pub tag-name : ℕ
+tag-name = 0x02
+
+abbrev pub tag-link : ℕ
+tag-link = 0x04
+
+abbrev pub tag-end : ℕ
+tag-end = 0x7F
 
 unfoldable pub record-bytes : ℕ → List ℕ → List ℕ
 record-bytes tag contents = tag ∷ length contents / 256 ∷ length contents % 256 ∷ contents
@@ -54,6 +86,7 @@ name-bytes m = record-bytes tag-name (m .router ∷ m .bytes)
 unfoldable pub link-bytes : Link → List ℕ
 link-bytes l = record-bytes tag-link (l .a ∷ l .b ∷ l .weight / 256 ∷ l .weight % 256 ∷ [])
 
+-- the routers, then names, then links, then the end
 unfoldable pub written : Table → List ℕ
 written t =
     record-bytes tag-routers (t .routers ∷ [])

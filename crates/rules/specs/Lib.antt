@@ -1,6 +1,6 @@
 pub mod Words
-pub mod Table
 pub mod Layout
+pub mod Table
 pub mod Links
 pub mod Pairs
 pub mod Routes

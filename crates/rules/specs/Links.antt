@@ -3,7 +3,7 @@ use mathlib.Core.Bool.{Bool, _&&_, _||_}
 use mathlib.Core.List.{List, [], _∷_}
 use Prim.Native.Nat.{ℕ}
 use Rattle.rules.specs.Words.{_=?_, pick}
-use Rattle.rules.specs.Table.{Link, Table}
+use Rattle.rules.specs.Layout.{Link, Table}
 
 -- the link runs between i and k, one way or the other
 abbrev pub joins : Link → ℕ → ℕ → Bool

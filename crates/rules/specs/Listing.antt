@@ -3,7 +3,8 @@ use mathlib.Core.Bool.{true, false, not}
 use mathlib.Core.List.{List, [], _∷_, _++_, map, flatten}
 use Prim.Native.Nat.{ℕ, zero, suc, _+_, _/_, _%_}
 use Rattle.rules.specs.Words.{_=?_, _<?_, pick, those, below, text}
-use Rattle.rules.specs.Table.{Table, Judged, accepted, refused, read, table-of}
+use Rattle.rules.specs.Layout.{Table}
+use Rattle.rules.specs.Table.{Judged, accepted, refused, read, table-of}
 use Rattle.rules.specs.Costs.{cost, no-cost}
 use Rattle.rules.specs.NextHops.{has, next-hops}
 

@@ -4,7 +4,7 @@ use mathlib.Core.Option.{Option, none, some}
 use Prim.Native.Nat.{ℕ}
 use lib.ListN.{length, take, drop}
 use Rattle.rules.specs.Words.{_=?_, pick}
-use Rattle.rules.specs.Table.{Name}
+use Rattle.rules.specs.Layout.{Name}
 
 -- a part of one of the lent tables: 0 for the old or only one, 1 for the new
 pub record Part : Type 0 where

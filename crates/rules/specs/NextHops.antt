@@ -2,7 +2,7 @@
 use mathlib.Core.Bool.{Bool, _&&_}
 use Prim.Native.Nat.{ℕ, zero, suc, _+_, _/_, _%_, _^_}
 use Rattle.rules.specs.Words.{_=?_, _<?_, pick, count}
-use Rattle.rules.specs.Table.{Table}
+use Rattle.rules.specs.Layout.{Table}
 use Rattle.rules.specs.Links.{weight}
 use Rattle.rules.specs.Costs.{cost}
 
@@ -33,7 +33,7 @@ size set = count (has set) 64
 
 -- neighbour k with weight(i, k) + cost(k, d) = cost(i, d)
 unfoldable pub leads : Table → ℕ → ℕ → ℕ → Bool
-leads t d i k = 0 <? weight t i k && weight t i k + cost t k d =? cost t i d
+leads t i d k = 0 <? weight t i k && weight t i k + cost t k d =? cost t i d
 
 unfoldable pub next-hops : Table → ℕ → ℕ → ℕ
-next-hops t i d = set-of (leads t d i) (t .routers)
+next-hops t i d = set-of (leads t i d) (t .routers)

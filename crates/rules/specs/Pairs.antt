@@ -2,7 +2,7 @@
 use mathlib.Core.Bool.{Bool, _||_, not}
 use Prim.Native.Nat.{ℕ, _+_}
 use Rattle.rules.specs.Words.{_=?_, _<?_, tally}
-use Rattle.rules.specs.Table.{Table}
+use Rattle.rules.specs.Layout.{Table}
 use Rattle.rules.specs.Links.{weight}
 
 -- how many links are in only one table or have another weight: those of the old table that the new one has not with this weight, and those of

@@ -3,9 +3,10 @@ use mathlib.Core.Bool.{Bool}
 use mathlib.Core.List.{List, [], _∷_}
 use Prim.Native.Nat.{ℕ, zero, suc, _-_}
 use Rattle.rules.specs.Words.{_=?_, _<?_, pick}
-use Rattle.rules.specs.Table.{Table, byte}
+use Rattle.rules.specs.Layout.{Table}
+use Rattle.rules.specs.Table.{byte}
 use Rattle.rules.specs.Links.{weight}
-use Rattle.rules.specs.Entries.{Entry, deliver, discard, no-route, forward, Ways, entry-by, ways, starts-here}
+use Rattle.rules.specs.Entries.{Entry, deliver, discard, no-route, forward, Rules, entry-by, rules-of, starts-here}
 
 -- ---- views
 
@@ -51,10 +52,10 @@ crossed i onward = record { outcome = onward .outcome; router = onward .router; 
 
 -- ---- arriving and leaving
 
--- what a packet for d meets: the ways of the two views, and the links that carry packets
+-- what a packet for d meets: the rules of the two views, and the links that carry packets
 pub record Site : Type 0 where
   pub destination : ℕ
-  pub ways : View → Ways
+  pub rules : View → Rules
   pub carries : ℕ → ℕ → Bool
 
 -- leaving router i over its link to k: a link that does not carry loses the packet; `onward` is what happens from k on
@@ -70,21 +71,21 @@ arrive i out (forward k) = out k
 
 -- The packet stands at router i, came from j, and n routers have decided: the one view that is chosen here serves for the whole entry.
 abbrev pub entry-at : Site → Choice → ℕ → ℕ → ℕ → Entry
-entry-at site choice n j i = entry-by (site .ways (choice i n)) i j (site .destination)
+entry-at site choice n i j = entry-by (site .rules (choice i n)) i j (site .destination)
 
 -- Arriving and leaving take turns until the packet ends. `left` bounds the hops: with none left nothing is crossed, and the theorems show that
 -- this is never met.
 unfoldable pub follow : Site → Choice → ℕ → ℕ → ℕ → ℕ → Trip
-follow site choice zero n j i = arrive i (λ k. ended lost i) (entry-at site choice n j i)
-follow site choice (suc left) n j i =
-    arrive i (λ k. leave site i k (follow site choice left (suc n) i k)) (entry-at site choice n j i)
+follow site choice zero n i j = arrive i (λ k. ended lost i) (entry-at site choice n i j)
+follow site choice (suc left) n i j =
+    arrive i (λ k. leave site i k (follow site choice left (suc n) k i)) (entry-at site choice n i j)
 
 -- ---- the base
 
 -- each view is a table, and the real links are those of the new table
 unfoldable pub site-of : Table → Table → ℕ → Site
-site-of old new d = record { destination = d; ways = λ v. ways (by v old new) d; carries = λ i k. 0 <? weight new i k }
+site-of old new d = record { destination = d; rules = λ v. rules-of (by v old new) d; carries = λ i k. 0 <? weight new i k }
 
 -- the packet from s to d: N − 1 hops are enough
 unfoldable pub path : Table → Table → Choice → ℕ → ℕ → Trip
-path old new choice s d = follow (site-of old new d) choice (new .routers - 1) 0 starts-here s
+path old new choice s d = follow (site-of old new d) choice (new .routers - 1) 0 s starts-here

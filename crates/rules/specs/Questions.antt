@@ -5,7 +5,8 @@ use mathlib.Core.Option.{Option}
 use Prim.Native.Nat.{ℕ, _+_, _-_, _*_}
 use lib.ListN.{length, take, drop, getD}
 use Rattle.rules.specs.Words.{_=?_, _<?_, _≤?_, pick, Line, _when_, first_otherwise_, every, below}
-use Rattle.rules.specs.Table.{Table, Name, Link, read, number-of, place-of, says}
+use Rattle.rules.specs.Layout.{Table, Name, Link}
+use Rattle.rules.specs.Table.{read, number-of, place-of, says}
 use Rattle.rules.specs.Pairs.{differing, too-different}
 use Rattle.rules.specs.Costs.{cost}
 use Rattle.rules.specs.NextHops.{next-hops, chosen, size}
@@ -45,8 +46,8 @@ unfoldable pub afterwards : {A : Type 0} → Answer A → List ℕ → List ℕ 
 afterwards a written lent = pick (a .refusal .number =? 0) (written ++ drop (length written) lent) lent
 
 -- 9: a router number not below N
-abbrev pub no-router : Table → ℕ → Bool
-no-router t i = t .routers ≤? i
+abbrev pub bad-router : Table → ℕ → Bool
+bad-router t i = t .routers ≤? i
 
 -- ---- reading one table, and two together
 
@@ -55,67 +56,67 @@ pub record Reading : Type 0 where
   pub routers : ℕ
   pub links : ℕ
 
-unfoldable pub reading : List ℕ → Answer Reading
-reading table =
+unfoldable pub read-answer : List ℕ → Answer Reading
+read-answer table =
     answer (bad-table 0 table ∷ [])
     (record { routers = 0; links = 0 })
     (record { routers = says table .routers; links = length (says table .links) })
 
 -- N and how many links differ
-pub record Pairing : Type 0 where
+pub record Pair : Type 0 where
   pub routers : ℕ
   pub differ : ℕ
 
-unfoldable pub pairing : List ℕ → List ℕ → Answer Pairing
-pairing old new =
+unfoldable pub pair-answer : List ℕ → List ℕ → Answer Pair
+pair-answer old new =
     answer (bad-table 0 old ∷ bad-table 1 new ∷ refusal 8 when too-different (says old) (says new) ∷ [])
     (record { routers = 0; differ = 0 })
     (record { routers = says new .routers; differ = differing (says old) (says new) })
 
 -- ---- costs and sets of one destination; the answer is N
 
-unfoldable pub filling : List ℕ → ℕ → List ℕ → List ℕ → Answer ℕ
-filling table d costs sets =
+unfoldable pub fill-answer : List ℕ → ℕ → List ℕ → List ℕ → Answer ℕ
+fill-answer table d costs sets =
     let n = says table .routers in
-    answer (bad-table 0 table ∷ refusal 9 when no-router (says table) d ∷ refusal 10 when (length costs <? n || length sets <? n) ∷ []) 0 n
+    answer (bad-table 0 table ∷ refusal 9 when bad-router (says table) d ∷ refusal 10 when (length costs <? n || length sets <? n) ∷ []) 0 n
 
-unfoldable pub filled-costs : List ℕ → ℕ → List ℕ → List ℕ → List ℕ
-filled-costs table d costs sets =
-    afterwards (filling table d costs sets) (map (λ i. cost (says table) i d) (below (says table .routers))) costs
+unfoldable pub costs-after : List ℕ → ℕ → List ℕ → List ℕ → List ℕ
+costs-after table d costs sets =
+    afterwards (fill-answer table d costs sets) (map (λ i. cost (says table) i d) (below (says table .routers))) costs
 
-unfoldable pub filled-sets : List ℕ → ℕ → List ℕ → List ℕ → List ℕ
-filled-sets table d costs sets =
-    afterwards (filling table d costs sets) (map (λ i. next-hops (says table) i d) (below (says table .routers))) sets
+unfoldable pub sets-after : List ℕ → ℕ → List ℕ → List ℕ → List ℕ
+sets-after table d costs sets =
+    afterwards (fill-answer table d costs sets) (map (λ i. next-hops (says table) i d) (below (says table .routers))) sets
 
 -- ---- the chosen hop and the size of a set: never refused
 
-pub record Choosing : Type 0 where
+pub record ChosenHop : Type 0 where
   pub hop : ℕ
   pub size : ℕ
 
-unfoldable pub choosing : ℕ → Choosing
-choosing set = record { hop = chosen set; size = size set }
+unfoldable pub chosen-answer : ℕ → ChosenHop
+chosen-answer set = record { hop = chosen set; size = size set }
 
 -- ---- the entry of router, previous hop, destination; the answer is its code
 
 -- 9: neither 255 nor a router below N, or the router asked about
-abbrev pub no-previous : Table → ℕ → ℕ → Bool
-no-previous t i j = (not (j =? starts-here) && no-router t j) || j =? i
+abbrev pub bad-previous : Table → ℕ → ℕ → Bool
+bad-previous t i j = (not (j =? starts-here) && bad-router t j) || j =? i
 
-unfoldable pub entering : List ℕ → ℕ → ℕ → ℕ → Answer ℕ
-entering table i j d =
+unfoldable pub entry-answer : List ℕ → ℕ → ℕ → ℕ → Answer ℕ
+entry-answer table i j d =
     let t = says table in
-    answer (bad-table 0 table ∷ refusal 9 when (no-router t i || no-router t d || no-previous t i j) ∷ []) 0 (code (entry t i j d))
+    answer (bad-table 0 table ∷ refusal 9 when (bad-router t i || bad-router t d || bad-previous t i j) ∷ []) 0 (code (entry t i j d))
 
 -- ---- the full interface table of a router; the answer is the number of bytes written
 
-unfoldable pub interfacing : List ℕ → ℕ → List ℕ → Answer ℕ
-interfacing table i out =
+unfoldable pub interfaces-answer : List ℕ → ℕ → List ℕ → Answer ℕ
+interfaces-answer table i out =
     let n = says table .routers in
-    answer (bad-table 0 table ∷ refusal 9 when no-router (says table) i ∷ refusal 10 when (length out <? (n + 1) * n) ∷ []) 0 ((n + 1) * n)
+    answer (bad-table 0 table ∷ refusal 9 when bad-router (says table) i ∷ refusal 10 when (length out <? (n + 1) * n) ∷ []) 0 ((n + 1) * n)
 
-unfoldable pub interfaced : List ℕ → ℕ → List ℕ → List ℕ
-interfaced table i out = afterwards (interfacing table i out) (interfaces (says table) i) out
+unfoldable pub interfaces-after : List ℕ → ℕ → List ℕ → List ℕ
+interfaces-after table i out = afterwards (interfaces-answer table i out) (interfaces (says table) i) out
 
 -- ---- the path of one packet
 
@@ -145,56 +146,56 @@ path-refusals old new s d views trace =
     bad-table 0 old
     ∷ bad-table 1 new
     ∷ refusal 8 when too-different (says old) t
-    ∷ refusal 9 when (no-router t s || no-router t d)
+    ∷ refusal 9 when (bad-router t s || bad-router t d)
     ∷ refusal 11 when bad-views t views
     ∷ refusal 10 when (length trace <? t .routers)
     ∷ []
 
-unfoldable pub following : List ℕ → List ℕ → ℕ → ℕ → List ℕ → List ℕ → Answer Ending
-following old new s d views trace =
+unfoldable pub path-answer : List ℕ → List ℕ → ℕ → ℕ → List ℕ → List ℕ → Answer Ending
+path-answer old new s d views trace =
     answer (path-refusals old new s d views trace) (record { router = 0; hops = 0; outcome = 0 }) (ending (trip-of old new s d views))
 
-unfoldable pub traced : List ℕ → List ℕ → ℕ → ℕ → List ℕ → List ℕ → List ℕ
-traced old new s d views trace = afterwards (following old new s d views trace) (trip-of old new s d views .trace) trace
+unfoldable pub trace-after : List ℕ → List ℕ → ℕ → ℕ → List ℕ → List ℕ → List ℕ
+trace-after old new s d views trace = afterwards (path-answer old new s d views trace) (trip-of old new s d views .trace) trace
 
 -- ---- names: the part handed back, and the companion's answer: 1 named, 0 unnamed, or the refusal
 
 abbrev pub name-for : List ℕ → ℕ → Option Name
 name-for table i = name-in (says table .names) i
 
-unfoldable pub naming : List ℕ → ℕ → Answer ℕ
-naming table i = answer (bad-table 0 table ∷ refusal 9 when no-router (says table) i ∷ []) 0 (named (name-for table i))
+unfoldable pub name-answer : List ℕ → ℕ → Answer ℕ
+name-answer table i = answer (bad-table 0 table ∷ refusal 9 when bad-router (says table) i ∷ []) 0 (named (name-for table i))
 
 -- no name, or a refusal: the empty part at the end of the table
 unfoldable pub name-part : List ℕ → ℕ → Part
-name-part table i = pick (naming table i .refusal .number =? 0) (part-or 0 (name-for table i) (empty-part 0 table)) (empty-part 0 table)
+name-part table i = pick (name-answer table i .refusal .number =? 0) (part-or 0 (name-for table i) (empty-part 0 table)) (empty-part 0 table)
 
 -- the name in the new table, or else the one in the old
-unfoldable pub naming-of-two : List ℕ → List ℕ → ℕ → Answer ℕ
-naming-of-two old new i =
-    answer (bad-table 0 old ∷ bad-table 1 new ∷ refusal 9 when (no-router (says old) i || no-router (says new) i) ∷ [])
+unfoldable pub two-names-answer : List ℕ → List ℕ → ℕ → Answer ℕ
+two-names-answer old new i =
+    answer (bad-table 0 old ∷ bad-table 1 new ∷ refusal 9 when (bad-router (says old) i || bad-router (says new) i) ∷ [])
     0
     (named (or-else (name-for new i) (name-for old i)))
 
-unfoldable pub name-part-of-two : List ℕ → List ℕ → ℕ → Part
-name-part-of-two old new i =
-    pick (naming-of-two old new i .refusal .number =? 0)
+unfoldable pub two-names-part : List ℕ → List ℕ → ℕ → Part
+two-names-part old new i =
+    pick (two-names-answer old new i .refusal .number =? 0)
     (part-or 1 (name-for new i) (part-or 0 (name-for old i) (empty-part 1 new)))
     (empty-part 1 new)
 
 -- ---- links: the link reader's answers one after another
 
 -- 1 and a link, or 0 for "no more" and zeros
-pub record Reached : Type 0 where
+pub record NextLink : Type 0 where
   pub more : ℕ
   pub link : Link
 
-abbrev pub no-more : Reached
+abbrev pub no-more : NextLink
 no-more = record { more = 0; link = record { a = 0; b = 0; weight = 0 } }
 
-unfoldable pub link-in : List Link → ℕ → Reached
+unfoldable pub link-in : List Link → ℕ → NextLink
 link-in ls k = pick (k <? length ls) (record { more = 1; link = getD ls k (no-more .link) }) no-more
 
 -- what a reader made from these bytes gives when it has given k answers; a refused table has no links
-unfoldable pub link-number : List ℕ → ℕ → Reached
-link-number table k = link-in (says table .links) k
+unfoldable pub link-answer : List ℕ → ℕ → NextLink
+link-answer table k = link-in (says table .links) k
