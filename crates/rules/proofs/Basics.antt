@@ -12,7 +12,7 @@ use lib.Dec.{eqb, ltb}
 use lib.ListN.{length, getD, take, drop, length-append, length-map, List·getD-append}
 use lib.Seq.{getD-at, take-nil}
 use borrow.Author.Tests.{ltb-true, lt-ltb, le-ltb, eq-eqb, ne-eqb}
-use Rattle.rules.specs.Words.{pick, every, below, count, All, Distinct}
+use Rattle.rules.specs.Words.{pick, every, those, below, All, Distinct}
 
 -- ---- tests
 
@@ -44,6 +44,11 @@ module _ {A : Type 0} (measure : A → ℕ) (P : A → Type 0) (each : (x : A) �
   strong x = strong-to (suc (measure x)) x (omega arith)
 
 -- ---- counting
+
+-- how many of the numbers 0 to n − 1 pass the test
+pub count : (ℕ → Bool) → ℕ → ℕ
+count p zero = 0
+count p (suc n) = pick (p n) 1 0 + count p n
 
 pub count-at-most : (p : ℕ → Bool) (n : ℕ) → count p n ≤ n
 unfolding count
@@ -99,6 +104,19 @@ module _ {A : Type 0} where
   pub All-zip : {P Q R : A → Type 0} → ((x : A) → P x → Q x → R x) → (xs : List A) → All P xs → All Q xs → All R xs
   All-zip f [] g h = tt
   All-zip f (x ∷ xs) g h = (f x (g .0) (h .0), All-zip f xs (g .1) (h .1))
+
+  pub All-append : (P : A → Type 0) (xs ys : List A) → All P xs → All P ys → All P (xs ++ ys)
+  All-append P [] ys g h = h
+  All-append P (x ∷ xs) ys g h = (g .0, All-append P xs ys (g .1) h)
+
+  pub those-append : (p : A → Bool) (xs ys : List A) → those p (xs ++ ys) ≡ those p xs ++ those p ys
+  unfolding those
+  those-append p [] ys = refl
+  those-append p (x ∷ xs) ys = rw (those-append p xs ys) (go (p x))
+    where
+      go : (t : Bool) → pick t (x ∷ (those p xs ++ those p ys)) (those p xs ++ those p ys) ≡ pick t (x ∷ those p xs) (those p xs) ++ those p ys
+      go true = refl
+      go false = refl
 
   -- a test that every element passes
   pub every-true : (p : A → Bool) (P : A → Type 0) → ((x : A) → p x ≡ true → P x) → (xs : List A) → every p xs ≡ true → All P xs
@@ -169,3 +187,43 @@ module _ {A : Type 0} (f : ℕ → A) where
   pub All-values : (P : A → Type 0) → ((k : ℕ) → P (f k)) → (ks : List ℕ) → All P (map f ks)
   All-values P h [] = tt
   All-values P h (k ∷ ks) = (h k, All-values P h ks)
+
+-- ---- the numbers below n that pass a test
+
+module _ (p : ℕ → Bool) where
+  those-more : (n : ℕ) → those p (below (suc n)) ≡ those p (below n) ++ pick (p n) (n ∷ []) []
+  unfolding below those
+  those-more n = those-append p (below n) (n ∷ [])
+
+  pub all-those : (n : ℕ) → All (λ x. (p x ≡ true) × (x < n)) (those p (below n))
+  unfolding below those
+  all-those zero = tt
+  all-those (suc n) =
+      rw (those-more n)
+      (All-append (λ x. (p x ≡ true) × (x < suc n)) (those p (below n)) (pick (p n) (n ∷ []) [])
+      (All-map (λ x h. (h .0, omega arith)) (those p (below n)) (all-those n)) (go (p n) refl))
+    where
+      go : (t : Bool) → p n ≡ t → All (λ x. (p x ≡ true) × (x < suc n)) (pick t (n ∷ []) [])
+      go true e = ((e, omega arith), tt)
+      go false e = tt
+
+  -- the first of them passes, and none that passes is lower
+  pub first-of-those : (n k other : ℕ) → k < n → p k ≡ true
+      → (0 < length (those p (below n))) × (p (getD (those p (below n)) 0 other) ≡ true) × (getD (those p (below n)) 0 other ≤ k)
+  first-of-those zero k other h e = absurd (omega arith)
+  first-of-those (suc n) k other h e = rw (those-more n) (go (ℕ-discrete k n) (those p (below n)) (all-those n) (first-of-those n k other))
+    where
+      go : Dec (k ≡ n) → (xs : List ℕ) → All (λ x. (p x ≡ true) × (x < n)) xs
+          → (k < n → p k ≡ true → (0 < length xs) × (p (getD xs 0 other) ≡ true) × (getD xs 0 other ≤ k))
+          → (0 < length (xs ++ pick (p n) (n ∷ []) []))
+          × (p (getD (xs ++ pick (p n) (n ∷ []) []) 0 other) ≡ true)
+          × (getD (xs ++ pick (p n) (n ∷ []) []) 0 other ≤ k)
+      go d (x ∷ xs) a ih = (omega arith, a .0 .0, lower d)
+        where
+          lower : Dec (k ≡ n) → x ≤ k
+          lower (yes q) = omega (arith, a .0 .1)
+          lower (no q) = ih (omega arith) e .2
+      go (yes q) [] a ih =
+          let e′ : p n ≡ true = rw q at e in
+          rw e′ (omega arith, e′, omega arith)
+      go (no q) [] a ih = absurd (omega (arith, ih (omega arith) e .0))

@@ -27,21 +27,21 @@ use Rattle.rules.specs.Table.{
 use Rattle.rules.specs.Links.{weight-in}
 use Rattle.rules.specs.Pairs.{differing, too-different}
 use Rattle.rules.specs.Costs.{direct, best, cost}
-use Rattle.rules.specs.NextHops.{has, set-of, seek, chosen, leads, next-hops}
+use Rattle.rules.specs.NextHops.{has, members, set-of, chosen, leads, next-hops}
 use Rattle.rules.specs.Entries.{entry-by, rules-of, entry, row, interfaces}
 use Rattle.rules.specs.Paths.{listed, follow, site-of, path}
 use Rattle.rules.specs.Questions.{bad-table, answer, afterwards, read-answer, interfaces-answer, interfaces-after, few-views, bad-views, trip-of, path-answer, trace-after}
-use Rattle.rules.specs.Listing.{digits, joined-by-commas, members, cost-and-next, line, lines, header, refusal-line, listing-lines, listing}
+use Rattle.rules.specs.Listing.{digits, joined-by-commas, cost-and-next, line, lines, header, refusal-line, listing-lines, listing}
 use Rattle.rules.specs.Examples.{reply, BenchExamples, InterfaceExample, ListingExamples}
 
 pub bench-examples : BenchExamples
-unfolding reply read-answer path-answer trace-after few-views bad-views trip-of bad-table answer afterwards read judge judge-from step bad-tag known-tag length-allowed contents-fit routers-fit name-fits name-byte link-fits key keep not-above too-many says table-of routers-of those every weight-in tally differing too-different direct best cost has set-of seek chosen leads next-hops entry-by rules-of listed follow site-of path
+unfolding reply read-answer path-answer trace-after few-views bad-views trip-of bad-table answer afterwards read judge judge-from step bad-tag known-tag length-allowed contents-fit routers-fit name-fits name-byte link-fits key keep not-above too-many says table-of routers-of those every weight-in tally differing too-different direct best cost has members below set-of chosen leads next-hops entry-by rules-of listed follow site-of path
 bench-examples = refl
 
 pub interface-example : InterfaceExample
-unfolding interfaces-after interfaces-answer interfaces row entry bad-table answer afterwards read judge judge-from step bad-tag known-tag length-allowed contents-fit routers-fit name-fits name-byte link-fits key keep not-above too-many says table-of routers-of those every below weight-in direct best cost has set-of seek chosen leads next-hops entry-by rules-of flatten
+unfolding interfaces-after interfaces-answer interfaces row entry bad-table answer afterwards read judge judge-from step bad-tag known-tag length-allowed contents-fit routers-fit name-fits name-byte link-fits key keep not-above too-many says table-of routers-of those every below weight-in direct best cost has members set-of chosen leads next-hops entry-by rules-of flatten
 interface-example = refl
 
 pub listing-examples : ListingExamples
-unfolding listing listing-lines lines line header refusal-line cost-and-next members joined-by-commas digits read judge judge-from step bad-tag known-tag length-allowed contents-fit routers-fit name-fits name-byte link-fits key keep not-above too-many table-of routers-of those every below weight-in direct best cost has set-of leads next-hops flatten text-from
+unfolding listing listing-lines lines line header refusal-line cost-and-next joined-by-commas digits read judge judge-from step bad-tag known-tag length-allowed contents-fit routers-fit name-fits name-byte link-fits key keep not-above too-many table-of routers-of those every below weight-in direct best cost has set-of leads next-hops flatten text-from members
 listing-examples = refl

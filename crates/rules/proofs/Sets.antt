@@ -1,24 +1,26 @@
 -- Sets of routers as numbers: their bits, their lowest member, their size; and what the next-hop set of a table holds.
 -- Assumes nothing.
+use mathlib.Core.List.{[], _∷_}
 use mathlib.Core.Path.{_≡_, refl, sym, _∙_, ap}
 use mathlib.Core.Logic.{_⊎_, inl, inr, _↔_}
 use mathlib.Core.Bool.{Bool, true, false, false≢true}
 use Prim.Native.Nat.{ℕ, zero, suc, _+_, _-_, _*_, _/_, _%_, _^_, _≤_, _<_}
-use native.Mathlib.Nat.{add-zero, zero-add, mod-eq-of-lt, div-eq-of-lt, lt-of-lt-of-le, div-one}
+use native.Mathlib.Nat.{zero-add, mod-eq-of-lt, div-eq-of-lt, le-antisymm, lt-of-lt-of-le, div-one}
 use native.Mathlib.Decide.{ℕ-discrete, decLt}
 use native.Mathlib.Omega.{arith}
 use lib.Dec.{eqb, ltb}
+use lib.ListN.{length, length-append}
 use lib.Count as C
 use lib.Count.{ones, trailingZeros, onesIn, ones-cat}
 use lib.Pow.{pow-mono, shr-shr, high, low, mod-pow-add, mod-mod-pow, field}
 use borrow.Author.Tests.{eqb-true, eq-eqb, ltb-true, lt-ltb}
-use Rattle.rules.specs.Words.{pick, count}
+use Rattle.rules.specs.Words.{pick, those, below}
 use Rattle.rules.specs.Layout.{Table, Obeys}
 use Rattle.rules.specs.Links.{weight}
 use Rattle.rules.specs.Costs.{no-cost, cost}
-use Rattle.rules.specs.NextHops.{has, set-of, seek, chosen, size, leads, next-hops}
+use Rattle.rules.specs.NextHops.{has, members, set-of, chosen, size, leads, next-hops}
 use Rattle.rules.specs.Demands.{SetsHaveNeighbours, EmptySets, SetsFit, ChosenByBits}
-use Rattle.rules.proofs.Basics.{both}
+use Rattle.rules.proofs.Basics.{both, those-append, first-of-those}
 use Rattle.rules.proofs.CostLaws.{Next, Costs, next-finite}
 use Rattle.rules.proofs.Weights.{net}
 use Rattle.rules.proofs.LeastCost.{cost-laws}
@@ -74,13 +76,15 @@ module _ (p : ℕ → Bool) where
       go true = refl
       go false = refl
 
-  -- the number of members
-  set-ones : (n : ℕ) → ones (set-of p n) ≡ count p n
-  unfolding set-of count ones onesIn
+  -- its ones are the routers that pass
+  set-ones : (n : ℕ) → ones (set-of p n) ≡ length (those p (below n))
+  unfolding set-of below those ones onesIn
   set-ones zero = refl
-  set-ones (suc n) = go (p n) (set-ones n)
+  set-ones (suc n) =
+      rw (those-append p (below n) (n ∷ []), length-append (those p (below n)) (those p (n ∷ []))) (go (p n) (set-ones n))
     where
-      go : (t : Bool) → ones (set-of p n) ≡ count p n → ones (pick t (2 ^ n) 0 + set-of p n) ≡ pick t 1 0 + count p n
+      go : (t : Bool) → ones (set-of p n) ≡ length (those p (below n))
+          → ones (pick t (2 ^ n) 0 + set-of p n) ≡ length (those p (below n)) + length (pick t (n ∷ []) [])
       go false ih = rw (zero-add (set-of p n)) (omega arith)
       go true ih =
           let e : 2 ^ n + set-of p n ≡ 1 * 2 ^ n + set-of p n = omega arith in
@@ -128,42 +132,26 @@ lowest-digit : (set : ℕ) → has set 0 ≡ eqb (set % 2) 1
 unfolding has
 lowest-digit set = rw (div-one set)
 
--- the first member from the lowest digit on
-seek-trailing : (p : ℕ → Bool) (other m k set : ℕ) → ((z : ℕ) → p (k + z) ≡ has set z) → 0 < set → set < 2 ^ m
-    → seek p other m k ≡ k + trailingZeros m set
-unfolding seek trailingZeros
-seek-trailing p other zero k set h s b = absurd (omega arith)
-seek-trailing p other (suc m) k set h s b =
-    rw lowest (go (set % 2) refl (seek-trailing p other m (suc k) (set / 2) higher))
+-- the trailing zeros are the lowest member
+trailing : (m set : ℕ) → 0 < set → set < 2 ^ m
+    → (has set (trailingZeros m set) ≡ true) × ((k : ℕ) → has set k ≡ true → trailingZeros m set ≤ k)
+unfolding trailingZeros
+trailing zero set s b = absurd (omega arith)
+trailing (suc m) set s b = go (set % 2) refl (trailing m (set / 2))
   where
-    lowest : p k ≡ eqb (set % 2) 1
-    lowest = ap p (sym (add-zero k)) ∙ h 0 ∙ lowest-digit set
-
-    higher : (z : ℕ) → p (suc k + z) ≡ has (set / 2) z
-    higher z =
-        let e : suc k + z ≡ k + suc z = omega arith in
-        rw e (h (suc z) ∙ half set z)
-
-    go : (d : ℕ) → set % 2 ≡ d → (0 < set / 2 → set / 2 < 2 ^ m → seek p other m (suc k) ≡ suc k + trailingZeros m (set / 2))
-        → pick (eqb d 1) k (seek p other m (suc k)) ≡ k + C.under d (trailingZeros m (set / 2))
-    go zero e ih = omega (arith, ih (omega arith) (omega arith))
-    go (suc zero) e ih = omega arith
-    go (suc (suc d)) e ih = absurd (omega arith)
-
--- what is found passes the test, and nothing that passes is lower
-seek-finds : (p : ℕ → Bool) (other m k z : ℕ) → k ≤ z → z < k + m → p z ≡ true → (p (seek p other m k) ≡ true) × (seek p other m k ≤ z)
-unfolding seek
-seek-finds p other zero k z a b e = absurd (omega arith)
-seek-finds p other (suc m) k z a b e = go (p k) refl (seek-finds p other m (suc k) z)
-  where
-    go : (t : Bool) → p k ≡ t → (suc k ≤ z → z < suc k + m → p z ≡ true → (p (seek p other m (suc k)) ≡ true) × (seek p other m (suc k) ≤ z))
-        → (p (pick t k (seek p other m (suc k))) ≡ true) × (pick t k (seek p other m (suc k)) ≤ z)
-    go true t ih = (t, a)
-    go false t ih = ih (past (ℕ-discrete k z)) (omega arith) e
+    go : (d : ℕ) → set % 2 ≡ d
+        → (0 < set / 2 → set / 2 < 2 ^ m
+        → (has (set / 2) (trailingZeros m (set / 2)) ≡ true) × ((k : ℕ) → has (set / 2) k ≡ true → trailingZeros m (set / 2) ≤ k))
+        → (has set (C.under d (trailingZeros m (set / 2))) ≡ true) × ((k : ℕ) → has set k ≡ true → C.under d (trailingZeros m (set / 2)) ≤ k)
+    go zero e ih =
+        let h = ih (omega arith) (omega arith) in
+        (half set (trailingZeros m (set / 2)) ∙ h .0, lower)
       where
-        past : Dec (k ≡ z) → suc k ≤ z
-        past (yes q) = absurd (false≢true (sym t ∙ (ap p q ∙ e)))
-        past (no q) = omega arith
+        lower : (k : ℕ) → has set k ≡ true → suc (trailingZeros m (set / 2)) ≤ k
+        lower zero q = absurd (false≢true (sym (lowest-digit set ∙ ap (λ d. eqb d 1) e) ∙ q))
+        lower (suc k) q = omega (arith, ih (omega arith) (omega arith) .1 k (sym (half set k) ∙ q))
+    go (suc zero) e ih = (lowest-digit set ∙ ap (λ d. eqb d 1) e, λ k q. omega arith)
+    go (suc (suc d)) e ih = absurd (omega arith)
 
 -- a set that no router is in
 no-bits : (set n : ℕ) → set < 2 ^ n → ((k : ℕ) → has set k ≡ false) → set ≡ 0
@@ -181,8 +169,10 @@ member-below set k b e = go (decLt k 64)
 
 -- the chosen hop is a member where there is one, and none is lower
 pub chosen-member : (set k : ℕ) → set < 2 ^ 64 → has set k ≡ true → (has set (chosen set) ≡ true) × (chosen set ≤ k)
-unfolding chosen
-chosen-member set k b e = seek-finds (has set) 255 64 0 k (omega arith) (omega (arith, member-below set k b e)) e
+unfolding chosen members
+chosen-member set k b e =
+    let (l, m, low) = first-of-those (has set) 64 k 255 (member-below set k b e) e in
+    (m, low)
 
 some-member : (set : ℕ) → set < 2 ^ 64 → 0 < set → has set (chosen set) ≡ true
 some-member set b s = go (has set (chosen set)) refl
@@ -196,15 +186,16 @@ some-member set b s = go (has set (chosen set)) refl
     go false e = absurd (omega (arith, no-bits set 64 b (λ k. none e k (has set k) refl)))
 
 first-member : (set : ℕ) → set < 2 ^ 64 → 0 < set → chosen set ≡ trailingZeros 64 set
-unfolding chosen
-first-member set b s = seek-trailing (has set) 255 64 0 set (λ z. ap (has set) (zero-add z)) s b ∙ zero-add (trailingZeros 64 set)
+first-member set b s =
+    let t = trailing 64 set s b in
+    le-antisymm (chosen-member set (trailingZeros 64 set) b (t .0) .1) (t .1 (chosen set) (some-member set b s))
 
 all-members : (set : ℕ) → set < 2 ^ 64 → size set ≡ ones set
-unfolding size
+unfolding size members
 all-members set b = sym (set-ones (has set) 64) ∙ ap ones (has-all set 64 ∙ mod-eq-of-lt b)
 
 no-member : (set : ℕ) → set ≡ 0 → (chosen set ≡ 255) × (size set ≡ 0)
-unfolding chosen size seek has count
+unfolding chosen size members those below has
 no-member set e = rw e (refl, refl)
 
 pub chosen-by-bits : ChosenByBits

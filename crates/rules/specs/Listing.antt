@@ -6,7 +6,7 @@ use Rattle.rules.specs.Words.{_=?_, _<?_, pick, those, below, text}
 use Rattle.rules.specs.Layout.{Table}
 use Rattle.rules.specs.Table.{Judged, accepted, refused, read, table-of}
 use Rattle.rules.specs.Costs.{cost, no-cost}
-use Rattle.rules.specs.NextHops.{has, next-hops}
+use Rattle.rules.specs.NextHops.{members, next-hops}
 
 -- a number below 10 ^ most in decimal digits
 unfoldable pub digits : ℕ → ℕ → List ℕ
@@ -25,10 +25,6 @@ unfoldable pub joined-by-commas : List (List ℕ) → List ℕ
 joined-by-commas [] = []
 joined-by-commas (x ∷ []) = x
 joined-by-commas (x ∷ y ∷ ys) = x ++ text "," ++ joined-by-commas (y ∷ ys)
-
--- the members of a set, rising
-unfoldable pub members : ℕ → List ℕ
-members set = those (has set) (below 64)
 
 -- cost and set members; no route prints `-` twice
 unfoldable pub cost-and-next : Table → ℕ → ℕ → List ℕ

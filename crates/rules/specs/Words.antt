@@ -69,11 +69,6 @@ unfoldable pub below : ℕ → List ℕ
 below zero = []
 below (suc n) = below n ++ (n ∷ [])
 
--- how many of the numbers 0 to n − 1 pass the test
-unfoldable pub count : (ℕ → Bool) → ℕ → ℕ
-count p zero = 0
-count p (suc n) = pick (p n) 1 0 + count p n
-
 -- no number stands twice
 abbrev pub Distinct : List ℕ → Type 0
 Distinct [] = Unit {0}
