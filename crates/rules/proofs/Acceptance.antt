@@ -12,7 +12,7 @@ use borrow.Author.Tests.{le-ltb}
 use Rattle.rules.specs.Words.{those, All}
 use Rattle.rules.specs.Layout.{Name, Link, Table, tag-routers, tag-name, tag-link, tag-end, Bytes, NameFits, LinkFits, Obeys, record-bytes, name-bytes, link-bytes, written}
 use Rattle.rules.specs.Table.{Record, link-of, key, Kept, nothing-kept, keep, record-in, accepted, judge, nothing-behind, read, number-of, records-of, routers-of, table-of, says}
-use Rattle.rules.specs.Demands.{Accepted, AcceptedByLayout, Writable, ContentsSettle}
+use Rattle.rules.specs.Demand1.{Accepted, AcceptedByLayout, Writable, ContentsSettle}
 use Rattle.rules.proofs.Basics.{pick-f, All-map}
 use Rattle.rules.proofs.Judging.{size-in, Judges, ends, goes, judged}
 use Rattle.rules.proofs.Records.{

@@ -27,6 +27,9 @@ pub both : (s t : Bool) → (s && t) ≡ true → (s ≡ true) × (t ≡ true)
 both true t e = (refl, e)
 both false t e = absurd (false≢true e)
 
+pub both-pass : (s t : Bool) → s ≡ true → t ≡ true → (s && t) ≡ true
+both-pass s t e f = rw e f
+
 -- neither test passes
 pub neither : (s t : Bool) → (s || t) ≡ false → (s ≡ false) × (t ≡ false)
 neither true t e = absurd (false≢true (sym e))

@@ -1,7 +1,6 @@
 -- Demand 3, for any permitted rules and for the base: lowest member, PIPO, links of the new table.
 -- Assumes nothing.
-use mathlib.Core.Path.{_≡_, refl}
-use mathlib.Core.Logic.{_≢_}
+use mathlib.Core.Path.{_≡_, refl, sym}
 use mathlib.Core.Bool.{Bool, true, false}
 use mathlib.Core.List.{List, [], _∷_}
 use Prim.Native.Nat.{ℕ, _-_, _<_}
@@ -11,24 +10,24 @@ use lib.ListN.{getD}
 use borrow.Author.Tests.{lt-ltb, ltb-true}
 use Rattle.rules.specs.Layout.{Table, Obeys}
 use Rattle.rules.specs.Links.{weight}
-use Rattle.rules.specs.Costs.{no-cost, cost}
-use Rattle.rules.specs.NextHops.{has, chosen, next-hops}
-use Rattle.rules.specs.Entries.{rules-of, starts-here}
-use Rattle.rules.specs.Paths.{by, Choice, Trip, follow, site-of, path}
-use Rattle.rules.specs.Demands.{Follows, Together, Permitted, Willing, Hops, Loopless, Demand3ForAnyRules, Demand3OfBase}
-use Rattle.rules.proofs.LeastCost.{cost-laws}
-use Rattle.rules.proofs.Sets.{has-below, has-next, sets-fit, chosen-member}
+use Rattle.rules.specs.NextHops.{has, next-hops}
+use Rattle.rules.specs.Entries.{rules-of, starts-here, entry}
+use Rattle.rules.specs.Paths.{by, Choice, Trip, journey, site-of, path}
+use Rattle.rules.specs.Demand3.{Follows, Together, Permitted, Willing, Hops, Loopless, Demand3ForAnyRules, Demand3OfPath}
+use Rattle.rules.proofs.Sets.{has-below, has-next, sets-fit}
+use Rattle.rules.proofs.Entries.{chosen-leads}
 use Rattle.rules.proofs.LoopFree.{bounded, one-trip, obeys, follows, loopless}
-use Rattle.rules.proofs.AllNew.{delivered-new}
+use Rattle.rules.proofs.AllNew.{always-new, at-least-cost}
 use Rattle.rules.proofs.ViewLists.{same-views, views-of, views-length, views-good, listed-follows}
 
 pub demand3-for-any-rules : Demand3ForAnyRules
+unfolding journey
 demand3-for-any-rules old new s d site choice 𝓣 b h 𝓟 = record {
   loopless = free;
   only = λ trip g. one-trip g f;
-  all-new = λ 𝓦 all. delivered-new 𝓣 𝓟 𝓦 choice all s f b h (free .enough);
+  all-new = λ 𝓦 all. at-least-cost 𝓣 𝓟 𝓦 s (same-views site choice always-new f (λ m l. rw (zero-add m) (sym (all m l))));
   early = λ choice′ same.
-      bounded (same-views site choice choice′ f (λ m l. rw (zero-add m) (same (getD (trip .trace) m starts-here) m (omega (arith, free .enough)))))
+      bounded (same-views site choice choice′ f (λ m l. rw (zero-add m) (same (getD (trip .trace) m 255) m (omega (arith, free .enough)))))
       (new .routers - 1) (omega (arith, free .few));
   some-list = (
     views-of choice (new .routers - 1) (trip .trace),
@@ -39,7 +38,7 @@ demand3-for-any-rules old new s d site choice 𝓣 b h 𝓟 = record {
 }
   where
     trip : Trip
-    trip = follow site choice (new .routers - 1) 0 s starts-here
+    trip = journey (new .routers) site choice s
 
     f : Follows site choice 0 s starts-here trip
     f = follows 𝓣 𝓟 choice starts-here s b
@@ -47,20 +46,14 @@ demand3-for-any-rules old new s d site choice 𝓣 b h 𝓟 = record {
     free : Loopless (new .routers) s site choice trip
     free = loopless 𝓣 𝓟 choice s b h f
 
--- ---- the base
-
--- the chosen hop is a member where the cost is finite
-base-member : (t : Table) → Obeys t → (i d : ℕ) → i ≢ d → cost t i d < no-cost → has (next-hops t i d) (chosen (next-hops t i d)) ≡ true
-base-member t o i d a f =
-    let (k, s) = cost-laws t o d .tight i a f in
-    chosen-member (next-hops t i d) k (sets-fit t o i d) (has-next t o i d k .1 s) .0
+-- ---- document 01's rules
 
 pub base-permitted : {old new : Table} → Together old new → (d : ℕ) → Permitted old new d (site-of old new d)
 unfolding site-of rules-of
 base-permitted {old} {new} 𝓣 d = record {
   for-d = refl;
-  knows = λ v i. refl;
-  member = λ v i. base-member (by v old new) (obeys 𝓣 v) i d;
+  knows = λ v i a. refl;
+  member = λ v i j. chosen-leads (by v old new) (obeys 𝓣 v) i d;
   drops = λ v i j e. cc;
 }
 
@@ -75,8 +68,8 @@ not-back t o i j d e = go (has (next-hops t i d) j) refl
 pub base-willing : {old new : Table} → Together old new → (d : ℕ) → Willing new d (site-of old new d)
 unfolding site-of rules-of
 base-willing {old} {new} 𝓣 d = record {
-  starts-on = λ i. has-below (next-hops new i d) 64 starts-here (sets-fit new (𝓣 .new-obeys) i d) (omega arith);
-  goes-on = λ i j. not-back new (𝓣 .new-obeys) i j d;
+  starts-on = λ i a. has-below (next-hops new i d) 64 starts-here (sets-fit new (𝓣 .new-obeys) i d) (omega arith);
+  goes-on = λ i j a. not-back new (𝓣 .new-obeys) i j d;
   carried = λ i k l. lt-ltb 0 (weight new i k) l;
 }
 
@@ -86,13 +79,13 @@ Hops-map P Q f [] h = tt
 Hops-map P Q f (i ∷ []) h = tt
 Hops-map P Q f (i ∷ k ∷ ks) h = (f i k (h .0), Hops-map P Q f (k ∷ ks) (h .1))
 
-pub demand3-of-base : (old new : Table) (s d : ℕ) (choice : Choice) → Together old new → s < new .routers → d < new .routers → Demand3OfBase old new s d choice
-unfolding path site-of
-demand3-of-base old new s d choice 𝓣 b h =
+pub demand3-of-path : (old new : Table) (s d : ℕ) (choice : Choice) → Together old new → s < new .routers → d < new .routers → Demand3OfPath old new s d choice
+unfolding site-of entry
+demand3-of-path old new s d choice 𝓣 b h =
     let 𝓓 = demand3-for-any-rules old new s d (site-of old new d) choice 𝓣 b h (base-permitted 𝓣 d) in
     record {
-      loopless = 𝓓 .loopless;
-      over-new-links =
-          Hops-map _ _ (λ i k e. ltb-true 0 (weight new i k) e) (path old new choice s d .trace) (𝓓 .loopless .over-links);
+      general = 𝓓;
+      by-entries = λ v i j. refl;
+      over-new-links = Hops-map _ _ (λ i k e. ltb-true 0 (weight new i k) e) (path old new choice s d .trace) (𝓓 .loopless .over-links);
       all-new = 𝓓 .all-new (base-willing 𝓣 d);
     }

@@ -3,11 +3,18 @@
 use mathlib.Core.Path.{_≡_, refl, sym, _∙_, ap}
 use mathlib.Core.Logic.{_≢_}
 use mathlib.Core.Bool.{Bool, true, false}
-use Prim.Native.Nat.{ℕ}
+use Prim.Native.Nat.{ℕ, _<_}
 use native.Mathlib.Decide.{ℕ-discrete}
 use native.Mathlib.Omega.{arith}
-use borrow.Author.Tests.{eq-eqb, ne-eqb}
-use Rattle.rules.specs.Entries.{Entry, deliver, discard, no-route, forward, Rules, entry-by}
+use borrow.Author.Tests.{ltb-true, eq-eqb, ne-eqb}
+use Rattle.rules.specs.Layout.{Table, Obeys}
+use Rattle.rules.specs.Costs.{no-cost, cost}
+use Rattle.rules.specs.NextHops.{has, chosen, next-hops}
+use Rattle.rules.specs.Entries.{Entry, deliver, discard, no-route, forward, Rules, entry-by, rules-of, entry}
+use Rattle.rules.specs.Demand2.{EntriesForward}
+use Rattle.rules.proofs.Weights.{net}
+use Rattle.rules.proofs.LeastCost.{cost-laws}
+use Rattle.rules.proofs.Sets.{sets-fit, has-next, chosen-member}
 
 -- router i, previous hop j, destination d
 module _ (rules : Rules) (i j d : ℕ) where
@@ -24,7 +31,7 @@ module _ (rules : Rules) (i j d : ℕ) where
   unfolding entry-by
   discards-drop a r t = rw (ne-eqb i d a, r, t)
 
-  pub others-go : i ≢ d → rules .has-route i ≡ true → rules .discards i j ≡ false → entry-by rules i j d ≡ forward (rules .hop i)
+  pub others-go : i ≢ d → rules .has-route i ≡ true → rules .discards i j ≡ false → entry-by rules i j d ≡ forward (rules .hop i j)
   unfolding entry-by
   others-go a r t = rw (ne-eqb i d a, r, t)
 
@@ -32,7 +39,7 @@ module _ (rules : Rules) (i j d : ℕ) where
     at-home : i ≡ d → Enters deliver
     cut-off : i ≢ d → rules .has-route i ≡ false → Enters no-route
     drops : i ≢ d → rules .has-route i ≡ true → rules .discards i j ≡ true → Enters discard
-    sends : i ≢ d → rules .has-route i ≡ true → rules .discards i j ≡ false → Enters (forward (rules .hop i))
+    sends : i ≢ d → rules .has-route i ≡ true → rules .discards i j ≡ false → Enters (forward (rules .hop i j))
 
   enters : Enters (entry-by rules i j d)
   enters = go (ℕ-discrete i d) (rules .has-route i) refl (rules .discards i j) refl
@@ -63,3 +70,20 @@ first-line (forward k) = 0
 -- any other entry is given away from the destination
 pub away : (rules : Rules) (i j d : ℕ) {e : Entry} → entry-by rules i j d ≡ e → first-line e ≡ 0 → i ≢ d
 away rules i j d q z h = omega (arith, ap first-line (sym q ∙ home-delivers rules i j d h))
+
+-- ---- document 01's rules
+
+-- the chosen hop is a member where the cost is finite
+pub chosen-leads : (t : Table) → Obeys t → (i d : ℕ) → i ≢ d → cost t i d < no-cost → has (next-hops t i d) (chosen (next-hops t i d)) ≡ true
+chosen-leads t o i d a f =
+    let (k, s) = cost-laws t o d .tight i a f in
+    chosen-member (next-hops t i d) k (sets-fit t o i d) (has-next t o i d k .1 s) .0
+
+pub entries-forward : EntriesForward
+unfolding entry rules-of
+entries-forward t o i j d k e = go (entered (rules-of t d) i j d e)
+  where
+    go : {k : ℕ} → Enters (rules-of t d) i j d (forward k) → (has (next-hops t i d) k ≡ true) × (k < t .routers)
+    go (sends a r x) =
+        let m = chosen-leads t o i d a (ltb-true (cost t i d) no-cost r) in
+        (m, net t o .inside i (chosen (next-hops t i d)) (has-next t o i d (chosen (next-hops t i d)) .0 m .link) .1)

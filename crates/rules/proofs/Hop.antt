@@ -12,10 +12,9 @@ use lib.ListN.{length}
 use Rattle.rules.specs.Words.{All, Distinct}
 use Rattle.rules.specs.Costs.{no-cost}
 use Rattle.rules.specs.Paths.{View, old-view, new-view}
+use Rattle.rules.specs.Demand1.{SameEnds, OneChange}
 use Rattle.rules.proofs.Basics.{All-map, pigeonhole}
 use Rattle.rules.proofs.CostLaws.{Net, BothWays, Next, Costs, lower}
-use Rattle.rules.proofs.Weights.{SameEnds}
-use Rattle.rules.proofs.OneChange.{OneChange}
 
 -- ---- one hop from i to k in the view (w, c), with (w′, c′) the other view
 

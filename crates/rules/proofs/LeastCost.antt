@@ -14,7 +14,7 @@ use Rattle.rules.specs.Layout.{Table, Obeys}
 use Rattle.rules.specs.Links.{weight}
 use Rattle.rules.specs.Routes.{Route, arrived, via}
 use Rattle.rules.specs.Costs.{LeastCost, least, none, no-cost, direct, best, cost}
-use Rattle.rules.specs.Demands.{CostsAreLeast, OneLeastCost, RealCostsAreSmall, CostsHoldBothWays, CertifiedIsCost}
+use Rattle.rules.specs.Demand2.{CostsAreLeast, OneLeastCost, RealCostsAreSmall, CostsHoldBothWays, CertifiedIsCost}
 use Rattle.rules.proofs.CostLaws.{Net, BothWays, Costs, Next, at-most, near}
 use Rattle.rules.proofs.Weights.{net, both-ways}
 

@@ -3,7 +3,7 @@
 use mathlib.Core.Path.{_≡_, refl, _∙_, ap, subst}
 use mathlib.Core.Logic.{_≢_}
 use mathlib.Core.Bool.{Bool, true, false}
-use mathlib.Core.List.{List, [], _∷_}
+use mathlib.Core.List.{List, [], _∷_, flatten}
 use Prim.Native.Nat.{ℕ, suc, _+_, _-_, _*_, _≤_, _<_, min}
 use native.Mathlib.Omega.{arith}
 use lib.Dec.{ltb}
@@ -13,7 +13,8 @@ use borrow.Author.Tests.{ltb-true, ltb-false, eqb-true, lt-ltb, le-ltb}
 use Rattle.rules.specs.Words.{pick}
 use Rattle.rules.specs.Layout.{Name, tag-routers, tag-name, tag-link, tag-end}
 use Rattle.rules.specs.Table.{byte, name-of, length-allowed, key, Record, Kept, keep, record-in, step, Judged, accepted, refused, followed-by, judge, nothing-behind, read, number-of, place-of}
-use Rattle.rules.specs.Demands.{Lengths}
+use Rattle.rules.specs.Listing.{listing-lines, listing}
+use Rattle.rules.specs.Demand1.{LengthsHold}
 use Rattle.rules.proofs.Basics.{drop-take}
 use Rattle.rules.proofs.Judging.{size-in, contents-in, Good, Judges, stops, ends, goes, judged, judge-judges}
 use Rattle.rules.proofs.Records.{
@@ -220,9 +221,11 @@ module _ (bytes : List ℕ) where
       go (accepted rs end) h = ends-at (ltb end (length bytes)) rs end h (ltb-false end (length bytes))
       go (refused number place) h = (λ z. absurd (h .0 z), omega arith)
 
-pub lengths : (bytes : List ℕ) → Lengths bytes
-lengths bytes = record {
+pub lengths-hold : LengthsHold
+unfolding listing
+lengths-hold bytes = record {
   longest = read-within bytes .0;
   place-near = read-within bytes .1;
   same-reading = read-cut bytes;
+  same-listing = ap (λ j. flatten (listing-lines j)) (read-cut bytes);
 }

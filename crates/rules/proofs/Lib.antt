@@ -6,6 +6,7 @@ pub mod Acceptance
 pub mod Lengths
 pub mod Refusals
 pub mod Names
+pub mod Cases
 pub mod CostLaws
 pub mod Weights
 pub mod LeastCost
@@ -18,5 +19,6 @@ pub mod AllNew
 pub mod ViewLists
 pub mod Demand3
 pub mod Answered
+pub mod Outputs
 pub mod Uniqueness
 pub mod Examples

@@ -34,7 +34,7 @@ use Rattle.rules.specs.Paths.{
   entry-at,
   follow,
 }
-use Rattle.rules.specs.Demands.{Follows, delivers, discards, has-none, loses, crosses, Together, Permitted, Hops, deciders, Loopless}
+use Rattle.rules.specs.Demand3.{Follows, delivers, discards, has-none, loses, crosses, Together, Permitted, Hops, deciders, Loopless}
 use Rattle.rules.proofs.Basics.{pigeonhole}
 use Rattle.rules.proofs.CostLaws.{Net, BothWays, Costs}
 use Rattle.rules.proofs.Weights.{net, both-ways}
@@ -76,7 +76,7 @@ module _ {site : Site} {choice : Choice} where
   counted (crosses e f r) = ap suc (counted r)
 
   -- it ends where the packet ended
-  finished : {n i j : ℕ} {trip : Trip} → Follows site choice n i j trip → getD (trip .trace) (trip .hops) starts-here ≡ trip .router
+  finished : {n i j : ℕ} {trip : Trip} → Follows site choice n i j trip → getD (trip .trace) (trip .hops) 255 ≡ trip .router
   finished (delivers e) = refl
   finished (discards e) = refl
   finished (has-none e) = refl
@@ -152,9 +152,10 @@ module _ {old new : Table} {d : ℕ} {site : Site} (𝓣 : Together old new) (�
     where
       go : {k : ℕ} → Enters (site .rules v) i j (site .destination) (forward k) → Sends (W old new) (C old new d) v j i k
       go (sends a r t) =
-          let finite = ltb-true (cost (by v old new) i d) no-cost (sym (𝓟 .knows v i) ∙ r) in
+          let elsewhere : i ≢ d = λ q. a (q ∙ sym (𝓟 .for-d)) in
+          let finite = ltb-true (cost (by v old new) i d) no-cost (sym (𝓟 .knows v i elsewhere) ∙ r) in
           record {
-            onward = has-next (by v old new) (obeys 𝓣 v) i d (site .rules v .hop i) .0 (𝓟 .member v i (λ q. a (q ∙ sym (𝓟 .for-d))) finite);
+            onward = has-next (by v old new) (obeys 𝓣 v) i d (site .rules v .hop i j) .0 (𝓟 .member v i j elsewhere finite);
             kept = λ s. false≢true (sym t ∙ 𝓟 .drops v i j (has-next (by v old new) (obeys 𝓣 v) i d j .1 s));
           }
 
@@ -210,7 +211,7 @@ module _ {old new : Table} {d : ℕ} {site : Site} (𝓣 : Together old new) (�
       by-rules = f;
       once = once;
       counted = counted f;
-      from-source = ap (λ is. getD is 0 starts-here) (begins f .1);
+      from-source = ap (λ is. getD is 0 255) (begins f .1);
       to-its-end = finished f;
       all-routers = inside;
       few = few;

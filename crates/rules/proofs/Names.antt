@@ -1,19 +1,29 @@
--- The names that a table says stand in it: their places and sizes are those of the very bytes.
+-- The name of a router is the very bytes inside the table: the names that a table says stand at their places, and so does the part handed back.
 -- Assumes nothing.
-use mathlib.Core.Path.{_≡_, refl, sym, _∙_, ap}
+use mathlib.Core.Path.{_≡_, refl, sym, _∙_, ap, ap₂, subst}
+use mathlib.Core.Option.{Option, some, Option·some-injective}
 use mathlib.Core.Bool.{Bool, true, false}
 use mathlib.Core.List.{List, [], _∷_, map}
 use Prim.Native.Nat.{ℕ, _+_, _-_}
 use native.Mathlib.Omega.{arith}
-use lib.Dec.{ltb}
+use lib.Dec.{eqb, ltb}
 use lib.ListN.{length, take, drop, length-drop}
 use lib.Seq.{drop-drop}
+use borrow.Author.Tests.{eq-eqb, ne-eqb}
 use Rattle.rules.specs.Words.{pick, those, All}
+use Rattle.rules.specs.Layout.{Name}
 use Rattle.rules.specs.Table.{Record, Kept, name-of, record-in, Judged, accepted, refused, followed-by, judge, nothing-behind, read, records-of, table-of, says}
-use Rattle.rules.specs.Demands.{NamesStand}
-use Rattle.rules.proofs.Basics.{drop-take}
+use Rattle.rules.specs.Names.{Part, part-bytes, name-in, part-or, empty-part, named, or-else}
+use Rattle.rules.specs.Questions.{name-for, name-answer, name-part, two-names-answer, two-names-part}
+use Rattle.rules.specs.Demand1.{PartsAreNames, PartsOfTwoAreNames}
+use Rattle.rules.proofs.Basics.{pick-t, pick-f, drop-take}
 use Rattle.rules.proofs.Judging.{size-in, Good, Judges, stops, ends, goes, judge-judges}
+use Rattle.rules.proofs.Refusals.{gives-values}
 use Rattle.rules.proofs.Records.{length-contents}
+
+-- a name stands at its place in these bytes
+abbrev StandsIn : List ℕ → Name → Type 0
+StandsIn bytes m = take (length (m .bytes)) (drop (m .place) bytes) ≡ m .bytes
 
 module _ (bytes : List ℕ) where
   -- the contents of a record stand behind its header
@@ -37,7 +47,7 @@ module _ (bytes : List ℕ) where
       go (refused number at) h = tt
 
   -- a name stands one byte further on
-  name-stands : (r : Record) → Stands r → take (length (name-of r .bytes)) (drop (name-of r .place) bytes) ≡ name-of r .bytes
+  name-stands : (r : Record) → Stands r → StandsIn bytes (name-of r)
   name-stands r h =
       let n = length (r .contents) in
       let l : length (drop 1 (r .contents)) ≡ n - 1 = length-drop 1 (r .contents) in
@@ -48,13 +58,13 @@ module _ (bytes : List ℕ) where
       ∙ ap (drop 1) h
 
   names-of-those : (p : Record → Bool) (rs : List Record) → All Stands rs
-      → All (λ m. take (length (m .bytes)) (drop (m .place) bytes) ≡ m .bytes) (map name-of (those p rs))
+      → All (StandsIn bytes) (map name-of (those p rs))
   unfolding those
   names-of-those p [] h = tt
   names-of-those p (r ∷ rs) h = go (p r) (names-of-those p rs (h .1))
     where
-      go : (t : Bool) → All (λ m. take (length (m .bytes)) (drop (m .place) bytes) ≡ m .bytes) (map name-of (those p rs))
-          → All (λ m. take (length (m .bytes)) (drop (m .place) bytes) ≡ m .bytes) (map name-of (pick t (r ∷ those p rs) (those p rs)))
+      go : (t : Bool) → All (StandsIn bytes) (map name-of (those p rs))
+          → All (StandsIn bytes) (map name-of (pick t (r ∷ those p rs) (those p rs)))
       go true ih = (name-stands r (h .0), ih)
       go false ih = ih
 
@@ -70,6 +80,60 @@ module _ (bytes : List ℕ) where
       go (accepted rs end) h = whole (ltb end (length bytes)) rs end h
       go (refused number at) h = tt
 
-pub names-stand : NamesStand
+-- every name of a table stands at its place
+names-stand : (bytes : List ℕ) → All (StandsIn bytes) (says bytes .names)
 unfolding says table-of
 names-stand bytes = names-of-those bytes _ (records-of (read bytes)) (read-stand bytes)
+
+-- ---- the part handed back
+
+-- a name that is found is one of those listed
+found-stands : (bytes : List ℕ) (ms : List Name) → All (StandsIn bytes) ms → (i : ℕ) (m : Name) → name-in ms i ≡ some m → StandsIn bytes m
+unfolding name-in
+found-stands bytes [] h i m e = absurd (omega (arith, ap named e))
+found-stands bytes (x ∷ xs) h i m e = go (eqb (x .router) i) e (found-stands bytes xs (h .1) i m)
+  where
+    go : (t : Bool) → pick t (some x) (name-in xs i) ≡ some m → (name-in xs i ≡ some m → StandsIn bytes m) → StandsIn bytes m
+    go true e ih = subst (StandsIn bytes) (Option·some-injective x m e) (h .0)
+    go false e ih = ih e
+
+part-stands : (bytes : List ℕ) (i : ℕ) (m : Name) → name-for bytes i ≡ some m → StandsIn bytes m
+part-stands bytes i = found-stands bytes (says bytes .names) (names-stand bytes) i
+
+pub parts-are-names : PartsAreNames
+unfolding name-answer name-part
+parts-are-names table i = record {
+  refused = λ r. pick-f _ _ _ (ne-eqb _ 0 r);
+  unnamed = λ e q. (value e ∙ ap named q, part e ∙ ap (λ o. part-or 0 o (empty-part 0 table)) q);
+  named = λ m e q.
+      let p = part e ∙ ap (λ o. part-or 0 o (empty-part 0 table)) q in
+      (value e ∙ ap named q, ap (λ p. p .table) p, ap (part-bytes table) p ∙ part-stands table i m q);
+}
+  where
+    value : name-answer table i .refusal .number ≡ 0 → name-answer table i .values ≡ named (name-for table i)
+    value e = gives-values _ 0 (named (name-for table i)) e
+
+    part : name-answer table i .refusal .number ≡ 0 → name-part table i ≡ part-or 0 (name-for table i) (empty-part 0 table)
+    part e = pick-t _ _ _ (eq-eqb _ 0 e)
+
+pub parts-of-two-are-names : PartsOfTwoAreNames
+unfolding two-names-answer two-names-part
+parts-of-two-are-names old new i = record {
+  refused = λ r. pick-f _ _ _ (ne-eqb _ 0 r);
+  unnamed = λ e q r. (value e ∙ ap₂ (λ o p. named (or-else o p)) q r, part e ∙ ap₂ from q r);
+  named-new = λ m e q.
+      let p = part e ∙ ap (λ o. from o (name-for old i)) q in
+      (value e ∙ ap (λ o. named (or-else o (name-for old i))) q, ap (λ p. p .table) p, ap (part-bytes new) p ∙ part-stands new i m q);
+  named-old = λ m e q r.
+      let p = part e ∙ ap₂ from q r in
+      (value e ∙ ap₂ (λ o p. named (or-else o p)) q r, ap (λ p. p .table) p, ap (part-bytes old) p ∙ part-stands old i m r);
+}
+  where
+    from : Option Name → Option Name → Part
+    from in-new in-old = part-or 1 in-new (part-or 0 in-old (empty-part 1 new))
+
+    value : two-names-answer old new i .refusal .number ≡ 0 → two-names-answer old new i .values ≡ named (or-else (name-for new i) (name-for old i))
+    value e = gives-values _ 0 _ e
+
+    part : two-names-answer old new i .refusal .number ≡ 0 → two-names-part old new i ≡ from (name-for new i) (name-for old i)
+    part e = pick-t _ _ _ (eq-eqb _ 0 e)

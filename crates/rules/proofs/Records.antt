@@ -14,7 +14,7 @@ use borrow.Author.Tests.{ltb-true, ltb-false, leb-true, leb-false, eqb-true, eqb
 use Rattle.rules.specs.Words.{pick, every}
 use Rattle.rules.specs.Layout.{Name, Link, tag-routers, tag-name, tag-link, tag-end, NameFits, LinkFits, pair, record-bytes}
 use Rattle.rules.specs.Table.{byte, Record, name-of, link-of, known-tag, length-allowed, routers-fit, name-byte, name-fits, link-fits, contents-fit, key, Kept, bad-tag, not-above, too-many}
-use Rattle.rules.proofs.Basics.{both, neither, every-true, true-every}
+use Rattle.rules.proofs.Basics.{both, both-pass, neither, every-true, true-every}
 use Rattle.rules.proofs.Judging.{Good, size-in, contents-in}
 
 -- ---- the tags
@@ -208,7 +208,7 @@ unfolding length-allowed contents-fit routers-fit too-many
 routers-fine kept n z some few = record {
   tagged = order-tag kept tag-routers (record { is-known = is-routers; first-routers = λ e. refl; no-second = omega arith; not-below = omega arith });
   sized = refl;
-  fits = rw (le-leb 1 n some, le-leb n 64 few);
+  fits = both-pass (leb 1 n) _ (le-leb 1 n some) (le-leb n _ (omega arith));
   above = key-above kept tag-routers (n ∷ []) (omega arith);
   few = refl;
 }

@@ -1,6 +1,6 @@
 -- Each question is answered or refused by a number that its list names, a refusal changes no lent output, and names never count.
 -- Assumes nothing.
-use mathlib.Core.Path.{_≡_, refl}
+use mathlib.Core.Path.{_≡_, refl, _∙_}
 use mathlib.Core.Logic.{_≢_}
 use mathlib.Core.Bool.{Bool, true, false}
 use mathlib.Core.List.{List, [], _∷_, _++_, List·Memᴰ, List·Memᴰ·head, List·Memᴰ·tail as next, Memᴰ·append-right}
@@ -9,7 +9,7 @@ use native.Mathlib.Decide.{ℕ-discrete}
 use native.Mathlib.Omega.{arith}
 use lib.Dec.{ltb}
 use lib.ListN.{length, drop}
-use borrow.Author.Tests.{ltb-true, eq-eqb, ne-eqb}
+use borrow.Author.Tests.{ltb-true, lt-ltb, le-ltb, eq-eqb, ne-eqb}
 use Rattle.rules.specs.Words.{pick, Line, _when_, first_otherwise_, All}
 use Rattle.rules.specs.Table.{Record, Kept, record-in, Judged, accepted, refused, followed-by, judge, nothing-behind, read, number-of, place-of}
 use Rattle.rules.specs.Pairs.{differing, too-different}
@@ -33,14 +33,7 @@ use Rattle.rules.specs.Questions.{
   name-answer,
   two-names-answer,
 }
-use Rattle.rules.specs.Demands.{
-  TableRefusals,
-  table-numbers,
-  RefusedBy,
-  QuestionRefusals,
-  LentOutputsStay,
-  NamesNeverCount,
-}
+use Rattle.rules.specs.Demand1.{TableRefusals, table-numbers, RefusedBy, QuestionRefusals, LentOutputsStay, NamesNeverCount, of-table, TwoTablesFirst, TablesFirst}
 use Rattle.rules.proofs.Basics.{pick-t, pick-f}
 use Rattle.rules.proofs.Judging.{Judges, stops, ends, goes, judge-judges}
 
@@ -171,6 +164,38 @@ question-refusals = record {
       );
   of-name = λ table i. answered _ _ _ _ _ (by-table 0 table (omega arith), (by-number here, tt));
   of-two-names = λ old new i. answered _ _ _ _ _ (by-table 0 old (omega arith), (by-table 1 new (omega arith), (by-number here, tt)));
+}
+
+-- ---- which table
+
+-- a refused table that comes first is named
+first-table : {A : Type 0} (which : ℕ) (bytes : List ℕ) (ls : List (Line Refusal)) (zeros values : A) → number-of (read bytes) ≢ 0
+    → answer (bad-table which bytes ∷ ls) zeros values .refusal ≡ of-table which bytes
+unfolding answer bad-table
+first-table which bytes ls zeros values h = pick-t _ _ _ (lt-ltb 0 (number-of (read bytes)) (omega arith))
+
+-- the new one behind an old one that is accepted
+both-tables : {A : Type 0} (old new : List ℕ) (ls : List (Line Refusal)) (zeros values : A)
+    → TwoTablesFirst old new (answer (bad-table 0 old ∷ bad-table 1 new ∷ ls) zeros values)
+unfolding answer bad-table
+both-tables old new ls zeros values = (
+  first-table 0 old (bad-table 1 new ∷ ls) zeros values,
+  λ a h.
+      pick-f _ _ _ (le-ltb 0 (number-of (read old)) (omega arith))
+      ∙ pick-t _ _ _ (lt-ltb 0 (number-of (read new)) (omega arith)),
+)
+
+pub tables-first : TablesFirst
+unfolding read-answer pair-answer fill-answer entry-answer interfaces-answer path-answer name-answer two-names-answer
+tables-first = record {
+  of-read = λ table. first-table 0 table _ _ _;
+  of-pair = λ old new. both-tables old new _ _ _;
+  of-fill = λ table d costs sets. first-table 0 table _ _ _;
+  of-entry = λ table i j d. first-table 0 table _ _ _;
+  of-interfaces = λ table i out. first-table 0 table _ _ _;
+  of-path = λ old new s d views trace. both-tables old new _ _ _;
+  of-name = λ table i. first-table 0 table _ _ _;
+  of-two-names = λ old new i. both-tables old new _ _ _;
 }
 
 -- where nothing is refused the values are given

@@ -19,7 +19,7 @@ use Rattle.rules.specs.Layout.{Table, Obeys}
 use Rattle.rules.specs.Links.{weight}
 use Rattle.rules.specs.Costs.{no-cost, cost}
 use Rattle.rules.specs.NextHops.{has, members, set-of, chosen, size, leads, next-hops}
-use Rattle.rules.specs.Demands.{SetsHaveNeighbours, EmptySets, SetsFit, ChosenByBits}
+use Rattle.rules.specs.Demand2.{SetsHaveNeighbours, EmptySets, SetsFit, ChosenByBits}
 use Rattle.rules.proofs.Basics.{both, those-append, first-of-those}
 use Rattle.rules.proofs.CostLaws.{Next, Costs, next-finite}
 use Rattle.rules.proofs.Weights.{net}

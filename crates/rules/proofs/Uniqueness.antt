@@ -1,7 +1,7 @@
 -- A promise that is an equation allows one answer.
 -- Assumes nothing.
 use mathlib.Core.Path.{sym, _∙_}
-use Rattle.rules.specs.Demands.{EquationsSettle, PairsSettle}
+use Rattle.rules.specs.Promises.{EquationsSettle, PairsSettle}
 
 pub equations-settle : EquationsSettle
 equations-settle A B numbers apart said x y p q = apart x y (p ∙ sym q)

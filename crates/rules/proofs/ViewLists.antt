@@ -8,9 +8,9 @@ use native.Mathlib.Omega.{arith}
 use lib.Dec.{eqb}
 use lib.ListN.{length, getD}
 use Rattle.rules.specs.Words.{pick, All, below}
-use Rattle.rules.specs.Entries.{Entry, entry-by, starts-here}
+use Rattle.rules.specs.Entries.{Entry, entry-by}
 use Rattle.rules.specs.Paths.{View, old-view, new-view, Choice, listed, Trip, Site, entry-at}
-use Rattle.rules.specs.Demands.{Follows, delivers, discards, has-none, loses, crosses, decisions}
+use Rattle.rules.specs.Demand3.{Follows, delivers, discards, has-none, loses, crosses, decisions}
 use Rattle.rules.proofs.Basics.{length-values, value-at, All-values}
 use Rattle.rules.proofs.Entries.{home-delivers, delivers-home}
 use Rattle.rules.proofs.LoopFree.{deciders-suc}
@@ -19,7 +19,7 @@ use Rattle.rules.proofs.LoopFree.{deciders-suc}
 
 module _ (site : Site) (choice choice′ : Choice) where
   abbrev Agree : ℕ → Trip → Type 0
-  Agree n trip = (m : ℕ) → m < decisions trip → choice′ (getD (trip .trace) m starts-here) (n + m) ≡ choice (getD (trip .trace) m starts-here) (n + m)
+  Agree n trip = (m : ℕ) → m < decisions trip → choice′ (getD (trip .trace) m 255) (n + m) ≡ choice (getD (trip .trace) m 255) (n + m)
 
   -- the router that the packet stands at decides alike
   alike : (n i j : ℕ) {e : Entry} → entry-at site choice n i j ≡ e → choice′ i (n + 0) ≡ choice i (n + 0) → entry-at site choice′ n i j ≡ e
@@ -52,7 +52,7 @@ view-byte-small new-view = omega arith
 
 -- byte n is the view that the n-th router of the trace used
 pub views-of : Choice → ℕ → List ℕ → List ℕ
-views-of choice m trace = map (λ n. view-byte (choice (getD trace n starts-here) n)) (below m)
+views-of choice m trace = map (λ n. view-byte (choice (getD trace n 255) n)) (below m)
 
 pub views-length : (choice : Choice) (m : ℕ) (trace : List ℕ) → length (views-of choice m trace) ≡ m
 unfolding views-of
@@ -60,13 +60,13 @@ views-length choice m trace = length-values _ m
 
 pub views-good : (choice : Choice) (m : ℕ) (trace : List ℕ) → All (λ v. v ≤ 1) (views-of choice m trace)
 unfolding views-of
-views-good choice m trace = All-values _ (λ v. v ≤ 1) (λ n. view-byte-small (choice (getD trace n starts-here) n)) (below m)
+views-good choice m trace = All-values _ (λ v. v ≤ 1) (λ n. view-byte-small (choice (getD trace n 255) n)) (below m)
 
 -- it says the view that was used
-views-say : (choice : Choice) (m : ℕ) (trace : List ℕ) (i n : ℕ) → n < m → listed (views-of choice m trace) i n ≡ choice (getD trace n starts-here) n
+views-say : (choice : Choice) (m : ℕ) (trace : List ℕ) (i n : ℕ) → n < m → listed (views-of choice m trace) i n ≡ choice (getD trace n 255) n
 unfolding listed views-of
 views-say choice m trace i n h =
-    rw (value-at (λ n. view-byte (choice (getD trace n starts-here) n)) m n 0 h) (go (choice (getD trace n starts-here) n))
+    rw (value-at (λ n. view-byte (choice (getD trace n 255) n)) m n 0 h) (go (choice (getD trace n 255) n))
   where
     go : (v : View) → pick (eqb (view-byte v) 1) new-view old-view ≡ v
     go old-view = refl
@@ -76,4 +76,4 @@ views-say choice m trace i n h =
 pub listed-follows : (site : Site) (choice : Choice) (j i m : ℕ) {trip : Trip} → Follows site choice 0 i j trip → decisions trip ≤ m
     → Follows site (listed (views-of choice m (trip .trace))) 0 i j trip
 listed-follows site choice j i m {trip} f h =
-    same-views site choice (listed (views-of choice m (trip .trace))) f (λ k l. rw (zero-add k) (views-say choice m (trip .trace) (getD (trip .trace) k starts-here) k (omega arith)))
+    same-views site choice (listed (views-of choice m (trip .trace))) f (λ k l. rw (zero-add k) (views-say choice m (trip .trace) (getD (trip .trace) k 255) k (omega arith)))

@@ -11,12 +11,9 @@ use borrow.Author.Tests.{eqb-true, eq-eqb}
 use Rattle.rules.specs.Words.{pick, All, Rising}
 use Rattle.rules.specs.Layout.{Link, Table, LinkFits, pair, Obeys}
 use Rattle.rules.specs.Links.{joins, weight-in, weight}
+use Rattle.rules.specs.Demand1.{SameEnds}
 use Rattle.rules.proofs.Basics.{All-zip}
 use Rattle.rules.proofs.CostLaws.{Net, BothWays}
-
--- the same two ends, one way round or the other
-abbrev pub SameEnds : ℕ → ℕ → ℕ → ℕ → Type 0
-SameEnds a b i k = ((a ≡ i) × (b ≡ k)) ⊎ ((a ≡ k) × (b ≡ i))
 
 either-both : (s t u v : Bool) → ((s && t) || (u && v)) ≡ true → ((s ≡ true) × (t ≡ true)) ⊎ ((u ≡ true) × (v ≡ true))
 either-both true true u v e = inl (refl, refl)

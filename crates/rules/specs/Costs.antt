@@ -1,6 +1,7 @@
 -- Costs: the document's sentence, and an executable function that is shown to meet it.
+use mathlib.Core.List.{[], _∷_}
 use Prim.Native.Nat.{ℕ, zero, suc, _+_, _≤_, _<_, min}
-use Rattle.rules.specs.Words.{_=?_, pick}
+use Rattle.rules.specs.Words.{_=?_, _when_, first_otherwise_}
 use Rattle.rules.specs.Layout.{Table}
 use Rattle.rules.specs.Links.{weight}
 use Rattle.rules.specs.Routes.{Route}
@@ -16,11 +17,11 @@ pub data LeastCost (w : ℕ → ℕ → ℕ) (i d : ℕ) : ℕ → Type 0 where
 
 -- ---- an executable cost
 
--- with no router in between
+-- the cost with no router in between
 unfoldable pub direct : (ℕ → ℕ → ℕ) → ℕ → ℕ → ℕ
-direct w i d = pick (i =? d) 0 (pick (w i d =? 0) no-cost (w i d))
+direct w i d = first 0 when (i =? d) ∷ no-cost when (w i d =? 0) ∷ [] otherwise w i d
 
--- with routers below m in between: over router m − 1, or not
+-- the least cost with only routers below m in between; with one more, router m is passed or not
 unfoldable pub best : (ℕ → ℕ → ℕ) → ℕ → ℕ → ℕ → ℕ
 best w zero i d = direct w i d
 best w (suc m) i d = min (best w m i d) (best w m i m + best w m m d)

@@ -11,12 +11,16 @@ pub data Entry : Type 0 where
   deliver discard no-route : Entry
   forward : ℕ → Entry
 
--- What the entries of one view for one destination are made of: whether router i has a route, whether it discards a packet that comes from
--- router j, and the hop that it forwards to.
+-- the previous hop of a packet that starts here: no router has this number, and so no set
+abbrev pub starts-here : ℕ
+starts-here = 255
+
+-- What the entries of one view for one destination go by: whether router i has a route, whether it discards a packet that comes from router j,
+-- and the hop that it forwards such a packet to.
 pub record Rules : Type 0 where
   pub has-route : ℕ → Bool
   pub discards : ℕ → ℕ → Bool
-  pub hop : ℕ → ℕ
+  pub hop : ℕ → ℕ → ℕ
 
 -- router i, previous hop j, destination d: the first line that applies
 unfoldable pub entry-by : Rules → ℕ → ℕ → ℕ → Entry
@@ -25,25 +29,22 @@ entry-by rules i j d =
     ∷ no-route when not (rules .has-route i)
     ∷ discard when rules .discards i j
     ∷ []
-    otherwise forward (rules .hop i)
+    otherwise forward (rules .hop i j)
 
--- The rules of the base: PIPO discards where j is any member of the next-hop set, and the hop is the chosen one.
+-- Document 01's rules: PIPO discards where j is any member of the next-hop set, and every packet goes to the chosen hop.
 unfoldable pub rules-of : Table → ℕ → Rules
 rules-of t d = record {
   has-route = λ i. cost t i d <? no-cost;
   discards = λ i j. has (next-hops t i d) j;
-  hop = λ i. chosen (next-hops t i d);
+  hop = λ i j. chosen (next-hops t i d);
 }
-
--- the previous hop of a packet that starts here
-abbrev pub starts-here : ℕ
-starts-here = 255
 
 unfoldable pub entry : Table → ℕ → ℕ → ℕ → Entry
 entry t i j d = entry-by (rules-of t d) i j d
 
 -- ---- the full interface table
 
+-- 0 to 63 forward there, 128 deliver, 129 discard, 130 no route
 abbrev pub code : Entry → ℕ
 code (forward k) = k
 code deliver = 128

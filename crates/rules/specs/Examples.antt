@@ -65,54 +65,45 @@ reply (follows old new s d views) =
     pick (a .refusal .number =? 0) (ends (a .values .outcome) (a .values .router) (a .values .hops) (trace-after old new s d views lent))
     (refuses (a .refusal .number) (a .refusal .place))
 
-abbrev O : ℕ
-O = 0
+infix 68 _says_
+abbrev _says_ : Question → Reply → Question × Reply
+q says r = (q, r)
 
-abbrev N : ℕ
-N = 1
+-- the bytes of a view list
+abbrev o : ℕ
+o = 0
 
--- P11 stands for each of its four lists
-abbrev pub questions : List Question
-questions =
-    reads []
-    ∷ reads (0x01 ∷ 0x00 ∷ 0x01 ∷ 0x01 ∷ 0x7F ∷ 0x00 ∷ 0x00 ∷ [])
-    ∷ reads (0x01 ∷ 0x00 ∷ 0x01 ∷ 0x40 ∷ 0x7F ∷ 0x00 ∷ 0x00 ∷ [])
-    ∷ reads (0x01 ∷ 0x00 ∷ 0x01 ∷ 0x41 ∷ 0x7F ∷ 0x00 ∷ 0x00 ∷ [])
-    ∷ reads (0x01 ∷ 0x00 ∷ 0x01 ∷ 0x02 ∷ 0x04 ∷ 0x00 ∷ 0x04 ∷ 0x00 ∷ 0x01 ∷ 0x00 ∷ 0x00 ∷ 0x7F ∷ 0x00 ∷ 0x00 ∷ [])
-    ∷ follows triangle-old triangle-new 1 2 (N ∷ O ∷ [])
-    ∷ follows triangle-old triangle-new 1 2 (N ∷ N ∷ [])
-    ∷ follows triangle-old triangle-new 0 2 (O ∷ O ∷ [])
-    ∷ follows ring-old ring-new 0 6 (O ∷ O ∷ O ∷ N ∷ N ∷ N ∷ [])
-    ∷ follows ring-old ring-new 3 6 (N ∷ N ∷ N ∷ N ∷ N ∷ N ∷ [])
-    ∷ follows triangle-old triangle-new 2 2 (O ∷ O ∷ [])
-    ∷ follows triangle-old triangle-new 2 2 (O ∷ N ∷ [])
-    ∷ follows triangle-old triangle-new 2 2 (N ∷ O ∷ [])
-    ∷ follows triangle-old triangle-new 2 2 (N ∷ N ∷ [])
-    ∷ follows pair-linked pair-apart 0 1 (N ∷ [])
-    ∷ []
+abbrev n : ℕ
+n = 1
 
--- 128 delivered, 129 discarded, 130 no route, 132 lost; later bytes of the trace stay
-abbrev pub replies : List Reply
-replies =
-    refuses 1 0
-    ∷ accepts 1 0
-    ∷ accepts 64 0
-    ∷ refuses 4 0
-    ∷ refuses 4 4
-    ∷ ends 129 0 1 (1 ∷ 0 ∷ replicate 6 0xEE)
-    ∷ ends 128 2 2 (1 ∷ 0 ∷ 2 ∷ replicate 5 0xEE)
-    ∷ ends 132 1 1 (0 ∷ 1 ∷ replicate 6 0xEE)
-    ∷ ends 129 3 3 (0 ∷ 1 ∷ 4 ∷ 3 ∷ replicate 4 0xEE)
-    ∷ ends 128 6 4 (3 ∷ 2 ∷ 5 ∷ 0 ∷ 6 ∷ replicate 3 0xEE)
-    ∷ ends 128 2 0 (2 ∷ replicate 7 0xEE)
-    ∷ ends 128 2 0 (2 ∷ replicate 7 0xEE)
-    ∷ ends 128 2 0 (2 ∷ replicate 7 0xEE)
-    ∷ ends 128 2 0 (2 ∷ replicate 7 0xEE)
-    ∷ ends 130 0 0 (0 ∷ replicate 7 0xEE)
+-- In the order of the document; P11 stands for each of its four lists. 128 delivered, 129 discarded, 130 no route, 132 lost; later bytes of the
+-- trace stay.
+abbrev pub cases : List (Question × Reply)
+cases =
+    -- P1 to P5
+    reads [] says refuses 1 0
+    ∷ reads (0x01 ∷ 0x00 ∷ 0x01 ∷ 0x01 ∷ 0x7F ∷ 0x00 ∷ 0x00 ∷ []) says accepts 1 0
+    ∷ reads (0x01 ∷ 0x00 ∷ 0x01 ∷ 0x40 ∷ 0x7F ∷ 0x00 ∷ 0x00 ∷ []) says accepts 64 0
+    ∷ reads (0x01 ∷ 0x00 ∷ 0x01 ∷ 0x41 ∷ 0x7F ∷ 0x00 ∷ 0x00 ∷ []) says refuses 4 0
+    ∷ reads (0x01 ∷ 0x00 ∷ 0x01 ∷ 0x02 ∷ 0x04 ∷ 0x00 ∷ 0x04 ∷ 0x00 ∷ 0x01 ∷ 0x00 ∷ 0x00 ∷ 0x7F ∷ 0x00 ∷ 0x00 ∷ []) says refuses 4 4
+    -- P6 to P8
+    ∷ follows triangle-old triangle-new 1 2 (n ∷ o ∷ []) says ends 129 0 1 (1 ∷ 0 ∷ replicate 6 0xEE)
+    ∷ follows triangle-old triangle-new 1 2 (n ∷ n ∷ []) says ends 128 2 2 (1 ∷ 0 ∷ 2 ∷ replicate 5 0xEE)
+    ∷ follows triangle-old triangle-new 0 2 (o ∷ o ∷ []) says ends 132 1 1 (0 ∷ 1 ∷ replicate 6 0xEE)
+    -- P9, P10
+    ∷ follows ring-old ring-new 0 6 (o ∷ o ∷ o ∷ n ∷ n ∷ n ∷ []) says ends 129 3 3 (0 ∷ 1 ∷ 4 ∷ 3 ∷ replicate 4 0xEE)
+    ∷ follows ring-old ring-new 3 6 (n ∷ n ∷ n ∷ n ∷ n ∷ n ∷ []) says ends 128 6 4 (3 ∷ 2 ∷ 5 ∷ 0 ∷ 6 ∷ replicate 3 0xEE)
+    -- P11
+    ∷ follows triangle-old triangle-new 2 2 (o ∷ o ∷ []) says ends 128 2 0 (2 ∷ replicate 7 0xEE)
+    ∷ follows triangle-old triangle-new 2 2 (o ∷ n ∷ []) says ends 128 2 0 (2 ∷ replicate 7 0xEE)
+    ∷ follows triangle-old triangle-new 2 2 (n ∷ o ∷ []) says ends 128 2 0 (2 ∷ replicate 7 0xEE)
+    ∷ follows triangle-old triangle-new 2 2 (n ∷ n ∷ []) says ends 128 2 0 (2 ∷ replicate 7 0xEE)
+    -- P12
+    ∷ follows pair-linked pair-apart 0 1 (n ∷ []) says ends 130 0 0 (0 ∷ replicate 7 0xEE)
     ∷ []
 
 abbrev pub BenchExamples : Type 0
-BenchExamples = map reply questions ≡ replies
+BenchExamples = map (λ c. reply (c .0)) cases ≡ map (λ c. c .1) cases
 
 -- ---- the old triangle's interface table of router 0, in thirteen lent bytes
 

@@ -11,5 +11,8 @@ pub mod Paths
 pub mod Names
 pub mod Listing
 pub mod Questions
-pub mod Demands
+pub mod Demand1
+pub mod Demand2
+pub mod Demand3
+pub mod Promises
 pub mod Examples

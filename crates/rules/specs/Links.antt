@@ -9,6 +9,7 @@ use Rattle.rules.specs.Layout.{Link, Table}
 abbrev pub joins : Link → ℕ → ℕ → Bool
 joins l i k = (l .a =? i && l .b =? k) || (l .a =? k && l .b =? i)
 
+-- the weight of the first of these links that joins i and k
 unfoldable pub weight-in : List Link → ℕ → ℕ → ℕ
 weight-in [] i k = 0
 weight-in (l ∷ ls) i k = pick (joins l i k) (l .weight) (weight-in ls i k)

@@ -16,6 +16,7 @@ pub record Part : Type 0 where
 abbrev pub part-bytes : List ℕ → Part → List ℕ
 part-bytes bytes part = take (part .size) (drop (part .place) bytes)
 
+-- the name of a router, if it has one
 unfoldable pub name-in : List Name → ℕ → Option Name
 name-in [] router = none
 name-in (m ∷ ms) router = pick (m .router =? router) (some m) (name-in ms router)

@@ -5,8 +5,8 @@ use Rattle.rules.specs.Words.{_=?_, _<?_, tally}
 use Rattle.rules.specs.Layout.{Table}
 use Rattle.rules.specs.Links.{weight}
 
--- how many links are in only one table or have another weight: those of the old table that the new one has not with this weight, and those of
--- the new table that the old one has not at all
+-- how many links are in only one table or have another weight: links of the old table that are missing in the new or have another weight there,
+-- and links of the new table that are missing in the old
 unfoldable pub differing : Table → Table → ℕ
 differing old new =
     tally (λ l. not (weight new (l .a) (l .b) =? l .weight)) (old .links) + tally (λ l. weight old (l .a) (l .b) =? 0) (new .links)

@@ -18,7 +18,7 @@ abbrev pub by : {A : Type 0} → View → A → A → A
 by old-view a b = a
 by new-view a b = b
 
--- Which view router i uses if it is the n-th that decides, counted from 0: chosen by anyone.
+-- which view router i uses if it is the n-th that decides, counted from 0: chosen by anyone
 abbrev pub Choice : Type 0
 Choice = ℕ → ℕ → View
 
@@ -28,9 +28,11 @@ listed views i n = pick (byte views n =? 1) new-view old-view
 
 -- ---- the answer
 
+-- delivered, discarded, no route, or lost
 pub data Outcome : Type 0 where
   delivered discarded unrouted lost : Outcome
 
+-- the code of the entry that ended the packet; lost is 132, since 131 is the own row of an interface table
 abbrev pub outcome-code : Outcome → ℕ
 outcome-code delivered = 128
 outcome-code discarded = 129
@@ -44,9 +46,11 @@ pub record Trip : Type 0 where
   pub hops : ℕ
   pub trace : List ℕ
 
+-- the packet ends at router i
 abbrev pub ended : Outcome → ℕ → Trip
 ended o i = record { outcome = o; router = i; hops = 0; trace = i ∷ [] }
 
+-- the packet crosses a link from router i; `onward` is what happens then
 abbrev pub crossed : ℕ → Trip → Trip
 crossed i onward = record { outcome = onward .outcome; router = onward .router; hops = suc (onward .hops); trace = i ∷ onward .trace }
 
@@ -74,18 +78,22 @@ abbrev pub entry-at : Site → Choice → ℕ → ℕ → ℕ → Entry
 entry-at site choice n i j = entry-by (site .rules (choice i n)) i j (site .destination)
 
 -- Arriving and leaving take turns until the packet ends. `left` bounds the hops: with none left nothing is crossed, and the theorems show that
--- this is never met.
+-- this never happens.
 unfoldable pub follow : Site → Choice → ℕ → ℕ → ℕ → ℕ → Trip
 follow site choice zero n i j = arrive i (λ k. ended lost i) (entry-at site choice n i j)
 follow site choice (suc left) n i j =
     arrive i (λ k. leave site i k (follow site choice left (suc n) k i)) (entry-at site choice n i j)
 
--- ---- the base
+-- the whole way of a packet that starts at s, in a site of N routers: N − 1 hops are enough
+unfoldable pub journey : ℕ → Site → Choice → ℕ → Trip
+journey n site choice s = follow site choice (n - 1) 0 s starts-here
+
+-- ---- the path of document 01
 
 -- each view is a table, and the real links are those of the new table
 unfoldable pub site-of : Table → Table → ℕ → Site
 site-of old new d = record { destination = d; rules = λ v. rules-of (by v old new) d; carries = λ i k. 0 <? weight new i k }
 
--- the packet from s to d: N − 1 hops are enough
-unfoldable pub path : Table → Table → Choice → ℕ → ℕ → Trip
-path old new choice s d = follow (site-of old new d) choice (new .routers - 1) 0 s starts-here
+-- the packet from s to d
+abbrev pub path : Table → Table → Choice → ℕ → ℕ → Trip
+path old new choice s d = journey (new .routers) (site-of old new d) choice s

@@ -1,4 +1,5 @@
--- Each whole question: its refusals in their order, its answer, and what each lent output holds afterwards.
+-- Each whole question: its answer, with the list of its refusals in their order, and what each lent output holds afterwards. A question is refused
+-- in the cases of its list and in no others.
 use mathlib.Core.Bool.{Bool, _&&_, _||_, not}
 use mathlib.Core.List.{List, [], _∷_, _++_, map}
 use mathlib.Core.Option.{Option}
@@ -22,7 +23,7 @@ pub record Refusal : Type 0 where
   pub table : ℕ
   pub place : ℕ
 
--- from 8 upwards table and place are 0
+-- a number without table and place: from 8 upwards, and 0 for none
 abbrev pub refusal : ℕ → Refusal
 refusal number = record { number = number; table = 0; place = 0 }
 
@@ -62,7 +63,7 @@ read-answer table =
     (record { routers = 0; links = 0 })
     (record { routers = says table .routers; links = length (says table .links) })
 
--- N and how many links differ
+-- N, which is one number for both, and how many links differ
 pub record Pair : Type 0 where
   pub routers : ℕ
   pub differ : ℕ
@@ -120,22 +121,24 @@ interfaces-after table i out = afterwards (interfaces-answer table i out) (inter
 
 -- ---- the path of one packet
 
--- the router where it ended, the hops, and 128 delivered, 129 discarded, 130 no route, 132 lost
+-- 128 delivered, 129 discarded, 130 no route, 132 lost; the router where it ended; the hops
 pub record Ending : Type 0 where
+  pub outcome : ℕ
   pub router : ℕ
   pub hops : ℕ
-  pub outcome : ℕ
 
 abbrev pub ending : Trip → Ending
-ending trip = record { router = trip .router; hops = trip .hops; outcome = outcome-code (trip .outcome) }
+ending trip = record { outcome = outcome-code (trip .outcome); router = trip .router; hops = trip .hops }
 
--- 11: a view list shorter than N − 1, or a byte other than 0 and 1 among its first N − 1
+-- a view list shorter than N − 1
 unfoldable pub few-views : Table → List ℕ → Bool
 few-views t views = length views <? t .routers - 1
 
+-- 11: a view list shorter than N − 1, or a byte other than 0 and 1 among its first N − 1
 unfoldable pub bad-views : Table → List ℕ → Bool
 bad-views t views = few-views t views || not (every (λ v. v ≤? 1) (take (t .routers - 1) views))
 
+-- the path that the views of a list give
 unfoldable pub trip-of : List ℕ → List ℕ → ℕ → ℕ → List ℕ → Trip
 trip-of old new s d views = path (says old) (says new) (listed views) s d
 
@@ -153,7 +156,7 @@ path-refusals old new s d views trace =
 
 unfoldable pub path-answer : List ℕ → List ℕ → ℕ → ℕ → List ℕ → List ℕ → Answer Ending
 path-answer old new s d views trace =
-    answer (path-refusals old new s d views trace) (record { router = 0; hops = 0; outcome = 0 }) (ending (trip-of old new s d views))
+    answer (path-refusals old new s d views trace) (record { outcome = 0; router = 0; hops = 0 }) (ending (trip-of old new s d views))
 
 unfoldable pub trace-after : List ℕ → List ℕ → ℕ → ℕ → List ℕ → List ℕ → List ℕ
 trace-after old new s d views trace = afterwards (path-answer old new s d views trace) (trip-of old new s d views .trace) trace

@@ -1,4 +1,5 @@
 -- The words that the other files are written in: tests, the first line that applies, lists of numbers, texts.
+-- Everywhere: what is marked `abbrev` is a short name for what it says, what is marked `unfoldable` a definition that proofs open by name.
 use mathlib.Core.Logic.{_≢_}
 use mathlib.Core.Bool.{Bool, true, false, _&&_}
 use mathlib.Core.List.{List, [], _∷_, _++_}
@@ -81,6 +82,7 @@ Rising (x ∷ xs) = All (λ y. x < y) xs × Rising xs
 
 -- ---- texts
 
+-- the codes of m characters from place k on
 unfoldable pub text-from : ℕ → String → ℕ → List ℕ
 text-from zero s k = []
 text-from (suc m) s k = code (charAt s k) ∷ text-from m s (suc k)

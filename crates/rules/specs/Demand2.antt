@@ -1,0 +1,74 @@
+-- What demand 2 says, as statements: costs, sets and entries are those of the rules. Each is proved in the file of `proofs/` that its heading names.
+use mathlib.Core.Path.{_≡_}
+use mathlib.Core.Logic.{_⊎_, _↔_}
+use mathlib.Core.Bool.{true}
+use Prim.Native.Nat.{ℕ, _+_, _*_, _^_, _≤_, _<_}
+use lib.Count.{ones, trailingZeros}
+use Rattle.rules.specs.Layout.{Obeys, Table}
+use Rattle.rules.specs.Links.{weight}
+use Rattle.rules.specs.Routes.{Route}
+use Rattle.rules.specs.Costs.{LeastCost, cost, no-cost}
+use Rattle.rules.specs.NextHops.{chosen, has, next-hops, size}
+use Rattle.rules.specs.Entries.{entry, forward}
+
+-- ---- least cost (proofs/LeastCost)
+
+abbrev pub CostsAreLeast : Type 0
+CostsAreLeast = (t : Table) → Obeys t → (i d : ℕ) → LeastCost (weight t) i d (cost t i d)
+
+-- the sentence allows one number only
+abbrev pub OneLeastCost : Type 0
+OneLeastCost = (w : ℕ → ℕ → ℕ) (i d c e : ℕ) → LeastCost w i d c → LeastCost w i d e → c ≡ e
+
+-- a real cost is at most 63 × 65535
+abbrev pub RealCostsAreSmall : Type 0
+RealCostsAreSmall = (t : Table) → Obeys t → (i d : ℕ) → cost t i d < no-cost → cost t i d ≤ 63 * 65535
+
+-- weights hold both ways, and so do costs
+abbrev pub CostsHoldBothWays : Type 0
+CostsHoldBothWays = (t : Table) → Obeys t → (i d : ℕ) → cost t i d ≡ cost t d i
+
+-- A certificate up to a bound B: f is 0 at d and nowhere above 4294967295, a value below that is the cost of some route, and over each link i-k with
+-- f k < B, f i ≤ w i k + f k. Wherever f ≤ B it is then the cost. A search that runs to its end takes B above 4294967295; one that stops early takes
+-- the value at which it stopped.
+pub record Certified (w : ℕ → ℕ → ℕ) (d B : ℕ) (f : ℕ → ℕ) : Type 0 where
+  pub home : f d ≡ 0
+  pub top : (i : ℕ) → f i ≤ no-cost
+  pub routed : (i : ℕ) → f i < no-cost → Route w d i (f i)
+  pub relaxed : (i k : ℕ) → 0 < w i k → f k < B → f i ≤ w i k + f k
+
+abbrev pub CertifiedIsCost : Type 0
+CertifiedIsCost = (t : Table) → Obeys t → (d B : ℕ) (f : ℕ → ℕ) → Certified (weight t) d B f → (i : ℕ) → f i ≤ B → f i ≡ cost t i d
+
+-- ---- sets (proofs/Sets)
+
+-- bit k is set exactly for the neighbours k with weight(i, k) + cost(k, d) = cost(i, d)
+abbrev pub SetsHaveNeighbours : Type 0
+SetsHaveNeighbours =
+    (t : Table) → Obeys t → (i d k : ℕ) → (has (next-hops t i d) k ≡ true) ↔ ((0 < weight t i k) × (weight t i k + cost t k d ≡ cost t i d))
+
+-- empty exactly for i = d or no route
+abbrev pub EmptySets : Type 0
+EmptySets = (t : Table) → Obeys t → (i d : ℕ) → (next-hops t i d ≡ 0) ↔ ((i ≡ d) ⊎ (cost t i d ≡ no-cost))
+
+-- a set is a 64-bit number
+abbrev pub SetsFit : Type 0
+SetsFit = (t : Table) → Obeys t → (i d : ℕ) → next-hops t i d < 2 ^ 64
+
+-- the chosen hop is the lowest member, by trailing zeros, and the size the count of ones; an empty set answers 255 and 0
+pub record ByBits (set : ℕ) : Type 0 where
+  pub member : 0 < set → has set (chosen set) ≡ true
+  pub lowest : (k : ℕ) → has set k ≡ true → chosen set ≤ k
+  pub by-zeros : 0 < set → chosen set ≡ trailingZeros 64 set
+  pub counted : size set ≡ ones set
+  pub empty : set ≡ 0 → (chosen set ≡ 255) × (size set ≡ 0)
+
+abbrev pub ChosenByBits : Type 0
+ChosenByBits = (set : ℕ) → set < 2 ^ 64 → ByBits set
+
+-- ---- entries (proofs/Entries)
+
+-- a router forwards to a router, a member of its set, so that the codes 0 to 63 and 128 to 131 tell all cases apart
+abbrev pub EntriesForward : Type 0
+EntriesForward =
+    (t : Table) → Obeys t → (i j d k : ℕ) → entry t i j d ≡ forward k → (has (next-hops t i d) k ≡ true) × (k < t .routers)
