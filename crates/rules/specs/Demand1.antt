@@ -46,6 +46,13 @@ ContentsSettle =
 abbrev pub TableRefusals : Type 0
 TableRefusals = (bytes : List ℕ) (number place : ℕ) → read bytes ≡ refused number place → (1 ≤ number) × (number ≤ 7)
 
+-- a question is answered, or it is refused
+abbrev pub Answered : {A : Type 0} → Answer A → Type 0
+Answered a = a .refusal .number ≡ 0
+
+abbrev pub Refused : {A : Type 0} → Answer A → Type 0
+Refused a = a .refusal .number ≢ 0
+
 -- The numbers that refuse a table, and behind them those that a question's list names.
 abbrev pub table-numbers : List ℕ → List ℕ
 table-numbers more = 1 ∷ 2 ∷ 3 ∷ 4 ∷ 5 ∷ 6 ∷ 7 ∷ more
@@ -94,11 +101,11 @@ pub record TablesFirst : Type 0 where
 
 -- a refusal changes no lent output
 pub record LentOutputsStay : Type 0 where
-  pub costs-stay : (table : List ℕ) (d : ℕ) (costs sets : List ℕ) → fill-answer table d costs sets .refusal .number ≢ 0 → costs-after table d costs sets ≡ costs
-  pub sets-stay : (table : List ℕ) (d : ℕ) (costs sets : List ℕ) → fill-answer table d costs sets .refusal .number ≢ 0 → sets-after table d costs sets ≡ sets
-  pub table-stays : (table : List ℕ) (i : ℕ) (out : List ℕ) → interfaces-answer table i out .refusal .number ≢ 0 → interfaces-after table i out ≡ out
+  pub costs-stay : (table : List ℕ) (d : ℕ) (costs sets : List ℕ) → Refused (fill-answer table d costs sets) → costs-after table d costs sets ≡ costs
+  pub sets-stay : (table : List ℕ) (d : ℕ) (costs sets : List ℕ) → Refused (fill-answer table d costs sets) → sets-after table d costs sets ≡ sets
+  pub table-stays : (table : List ℕ) (i : ℕ) (out : List ℕ) → Refused (interfaces-answer table i out) → interfaces-after table i out ≡ out
   pub trace-stays : (old new : List ℕ) (s d : ℕ) (views trace : List ℕ)
-      → path-answer old new s d views trace .refusal .number ≢ 0 → trace-after old new s d views trace ≡ trace
+      → Refused (path-answer old new s d views trace) → trace-after old new s d views trace ≡ trace
 
 -- ---- what is written (proofs/Outputs)
 
@@ -112,16 +119,16 @@ pub record Holds (n : ℕ) (written lent after : List ℕ) : Type 0 where
 -- a question that is not refused writes its whole answer, and nothing behind it
 pub record OutputsHold : Type 0 where
   pub costs-held : (table : List ℕ) (d : ℕ) (costs sets : List ℕ)
-      → fill-answer table d costs sets .refusal .number ≡ 0
+      → Answered (fill-answer table d costs sets)
       → Holds (says table .routers) (map (λ i. cost (says table) i d) (below (says table .routers))) costs (costs-after table d costs sets)
   pub sets-held : (table : List ℕ) (d : ℕ) (costs sets : List ℕ)
-      → fill-answer table d costs sets .refusal .number ≡ 0
+      → Answered (fill-answer table d costs sets)
       → Holds (says table .routers) (map (λ i. next-hops (says table) i d) (below (says table .routers))) sets (sets-after table d costs sets)
   pub interfaces-held : (table : List ℕ) (i : ℕ) (out : List ℕ)
-      → interfaces-answer table i out .refusal .number ≡ 0
+      → Answered (interfaces-answer table i out)
       → Holds ((says table .routers + 1) * says table .routers) (interfaces (says table) i) out (interfaces-after table i out)
   pub trace-held : (old new : List ℕ) (s d : ℕ) (views trace : List ℕ)
-      → path-answer old new s d views trace .refusal .number ≡ 0
+      → Answered (path-answer old new s d views trace)
       → Holds (suc (trip-of old new s d views .hops)) (trip-of old new s d views .trace) trace (trace-after old new s d views trace)
 
 -- ---- exactly in the listed cases (proofs/Cases)
@@ -144,25 +151,27 @@ pub record PathAsked (old new : List ℕ) (s d : ℕ) (views trace : List ℕ) :
 
 -- each question is answered exactly where none of its refusals is listed
 pub record AnsweredExactly : Type 0 where
-  pub of-read : (table : List ℕ) → (read-answer table .refusal .number ≡ 0) ↔ accepts table
-  pub of-pair : (old new : List ℕ) → (pair-answer old new .refusal .number ≡ 0) ↔ AcceptedTogether old new
+  pub of-read : (table : List ℕ) → Answered (read-answer table) ↔ accepts table
+  pub of-pair : (old new : List ℕ) → Answered (pair-answer old new) ↔ AcceptedTogether old new
   pub of-fill : (table : List ℕ) (d : ℕ) (costs sets : List ℕ)
-      → (fill-answer table d costs sets .refusal .number ≡ 0)
+      → Answered (fill-answer table d costs sets)
       ↔ (accepts table × (d < says table .routers) × (says table .routers ≤ length costs) × (says table .routers ≤ length sets))
   pub of-entry : (table : List ℕ) (i j d : ℕ)
-      → (entry-answer table i j d .refusal .number ≡ 0)
+      → Answered (entry-answer table i j d)
       ↔ (accepts table × (i < says table .routers) × (d < says table .routers) × ((j ≡ 255) ⊎ (j < says table .routers)) × (j ≢ i))
   pub of-interfaces : (table : List ℕ) (i : ℕ) (out : List ℕ)
-      → (interfaces-answer table i out .refusal .number ≡ 0)
+      → Answered (interfaces-answer table i out)
       ↔ (accepts table × (i < says table .routers) × ((says table .routers + 1) * says table .routers ≤ length out))
   pub of-path : (old new : List ℕ) (s d : ℕ) (views trace : List ℕ)
-      → (path-answer old new s d views trace .refusal .number ≡ 0) ↔ PathAsked old new s d views trace
-  pub of-name : (table : List ℕ) (i : ℕ) → (name-answer table i .refusal .number ≡ 0) ↔ (accepts table × (i < says table .routers))
+      → Answered (path-answer old new s d views trace) ↔ PathAsked old new s d views trace
+  pub of-name : (table : List ℕ) (i : ℕ) → Answered (name-answer table i) ↔ (accepts table × (i < says table .routers))
   pub of-two-names : (old new : List ℕ) (i : ℕ)
-      → (two-names-answer old new i .refusal .number ≡ 0)
+      → Answered (two-names-answer old new i)
       ↔ (accepts old × accepts new × (i < says old .routers) × (i < says new .routers))
 
--- at most one link differs exactly if any two pairs of routers whose weights differ are the ends of one link (proofs/OneChange)
+-- ---- number 8 (proofs/OneChange, proofs/Refusals)
+
+-- At most one link differs exactly if any two pairs of routers whose weights differ are the ends of one link.
 abbrev pub SameEnds : ℕ → ℕ → ℕ → ℕ → Type 0
 SameEnds a b i k = ((a ≡ i) × (b ≡ k)) ⊎ ((a ≡ k) × (b ≡ i))
 
@@ -195,10 +204,10 @@ LengthsHold = (bytes : List ℕ) → Lengths bytes
 
 -- the name of a router is the very bytes inside the table
 pub record PartIsName (table : List ℕ) (i : ℕ) : Type 0 where
-  pub refused : name-answer table i .refusal .number ≢ 0 → name-part table i ≡ empty-part 0 table
-  pub unnamed : name-answer table i .refusal .number ≡ 0 → name-for table i ≡ none
+  pub refused : Refused (name-answer table i) → name-part table i ≡ empty-part 0 table
+  pub unnamed : Answered (name-answer table i) → name-for table i ≡ none
       → (name-answer table i .values ≡ 0) × (name-part table i ≡ empty-part 0 table)
-  pub named : (m : Name) → name-answer table i .refusal .number ≡ 0 → name-for table i ≡ some m
+  pub named : (m : Name) → Answered (name-answer table i) → name-for table i ≡ some m
       → (name-answer table i .values ≡ 1) × (name-part table i .table ≡ 0) × (part-bytes table (name-part table i) ≡ m .bytes)
 
 abbrev pub PartsAreNames : Type 0
@@ -206,12 +215,12 @@ PartsAreNames = (table : List ℕ) (i : ℕ) → PartIsName table i
 
 -- of two tables: the name in the new one, or else the one in the old
 pub record PartOfTwo (old new : List ℕ) (i : ℕ) : Type 0 where
-  pub refused : two-names-answer old new i .refusal .number ≢ 0 → two-names-part old new i ≡ empty-part 1 new
-  pub unnamed : two-names-answer old new i .refusal .number ≡ 0 → name-for new i ≡ none → name-for old i ≡ none
+  pub refused : Refused (two-names-answer old new i) → two-names-part old new i ≡ empty-part 1 new
+  pub unnamed : Answered (two-names-answer old new i) → name-for new i ≡ none → name-for old i ≡ none
       → (two-names-answer old new i .values ≡ 0) × (two-names-part old new i ≡ empty-part 1 new)
-  pub named-new : (m : Name) → two-names-answer old new i .refusal .number ≡ 0 → name-for new i ≡ some m
+  pub named-new : (m : Name) → Answered (two-names-answer old new i) → name-for new i ≡ some m
       → (two-names-answer old new i .values ≡ 1) × (two-names-part old new i .table ≡ 1) × (part-bytes new (two-names-part old new i) ≡ m .bytes)
-  pub named-old : (m : Name) → two-names-answer old new i .refusal .number ≡ 0 → name-for new i ≡ none → name-for old i ≡ some m
+  pub named-old : (m : Name) → Answered (two-names-answer old new i) → name-for new i ≡ none → name-for old i ≡ some m
       → (two-names-answer old new i .values ≡ 1) × (two-names-part old new i .table ≡ 0) × (part-bytes old (two-names-part old new i) ≡ m .bytes)
 
 abbrev pub PartsOfTwoAreNames : Type 0

@@ -14,13 +14,12 @@ use Rattle.rules.specs.Costs.{cost, no-cost}
 use Rattle.rules.specs.NextHops.{has, next-hops}
 use Rattle.rules.specs.Entries.{deliver, discard, entry, entry-by, forward, no-route, starts-here}
 use Rattle.rules.specs.Paths.{Choice, Outcome, Site, Trip, View, by, crossed, delivered, discarded, ended, entry-at, journey, listed, lost, new-view, path, site-of, unrouted}
-use Rattle.rules.specs.Questions.{ending, path-answer, refusal, trip-of}
-use Rattle.rules.specs.Demand1.{AcceptedTogether}
+use Rattle.rules.specs.Questions.{ending, path-answer, trip-of}
+use Rattle.rules.specs.Demand1.{Answered, AcceptedTogether}
 
 -- ---- following as a relation: what arriving and leaving give, however many hops it takes
 
 -- n routers have decided; the packet stands at i and came from j
-
 pub data Follows (site : Site) (choice : Choice) : ℕ → ℕ → ℕ → Trip → Type 0 where
   delivers : {n i j : ℕ} → entry-at site choice n i j ≡ deliver → Follows site choice n i j (ended delivered i)
   discards : {n i j : ℕ} → entry-at site choice n i j ≡ discard → Follows site choice n i j (ended discarded i)
@@ -153,7 +152,7 @@ pub record Demand3Answered (old new : List ℕ) (s d : ℕ) (views trace : List 
 abbrev pub Demand3ForQuestions : Type 0
 Demand3ForQuestions =
     (old new : List ℕ) (s d : ℕ) (views trace : List ℕ)
-    → path-answer old new s d views trace .refusal .number ≡ 0 → Demand3Answered old new s d views trace
+    → Answered (path-answer old new s d views trace) → Demand3Answered old new s d views trace
 
 -- whatever the routers choose, the path question can be asked with a list that gives the same path
 abbrev pub EveryChoiceCanBeAsked : Type 0
@@ -165,5 +164,5 @@ EveryChoiceCanBeAsked =
     → says new .routers ≤ length trace
     → (views : List ℕ)
     × (length views ≡ says new .routers - 1)
-    × (path-answer old new s d views trace .refusal .number ≡ 0)
+    × Answered (path-answer old new s d views trace)
     × (trip-of old new s d views ≡ path (says old) (says new) choice s d)
