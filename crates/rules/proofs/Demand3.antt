@@ -1,6 +1,7 @@
--- Demand 3, for any permitted rules and for the base: lowest member, PIPO, links of the new table.
+-- Demand 3, for any permitted rules and for document 01's: lowest member, PIPO, links of the new table.
 -- Assumes nothing.
-use mathlib.Core.Path.{_≡_, refl, sym}
+use mathlib.Core.Path.{_≡_, refl, sym, _∙_, ap}
+use mathlib.Core.Logic.{_↔_}
 use mathlib.Core.Bool.{Bool, true, false}
 use mathlib.Core.List.{List, [], _∷_}
 use Prim.Native.Nat.{ℕ, _-_, _<_}
@@ -11,8 +12,8 @@ use borrow.Author.Tests.{lt-ltb, ltb-true}
 use Rattle.rules.specs.Layout.{Table, Obeys}
 use Rattle.rules.specs.Links.{weight}
 use Rattle.rules.specs.NextHops.{has, next-hops}
-use Rattle.rules.specs.Entries.{rules-of, starts-here, entry}
-use Rattle.rules.specs.Paths.{by, Choice, Trip, journey, site-of, path}
+use Rattle.rules.specs.Entries.{entry-by, rules-of, starts-here, entry}
+use Rattle.rules.specs.Paths.{View, new-view, by, Choice, Trip, Site, journey, site-of, path}
 use Rattle.rules.specs.Demand3.{Follows, Together, Permitted, Willing, Hops, Loopless, Demand3ForAnyRules, Demand3OfPath}
 use Rattle.rules.proofs.Sets.{has-below, has-next, sets-fit}
 use Rattle.rules.proofs.Entries.{chosen-leads}
@@ -48,13 +49,17 @@ demand3-for-any-rules old new s d site choice 𝓣 b h 𝓟 = record {
 
 -- ---- document 01's rules
 
-pub base-permitted : {old new : Table} → Together old new → (d : ℕ) → Permitted old new d (site-of old new d)
-unfolding site-of rules-of
-base-permitted {old} {new} 𝓣 d = record {
-  for-d = refl;
-  knows = λ v i a. refl;
-  member = λ v i j. chosen-leads (by v old new) (obeys 𝓣 v) i d;
-  drops = λ v i j e. cc;
+-- a site whose every router goes by document 01's rules of the one view that it uses, whatever links carry
+abbrev ByViews : Table → Table → ℕ → Site → Type 0
+ByViews old new d site = (site .destination ≡ d) × ((v : View) → site .rules v ≡ rules-of (by v old new) d)
+
+pub rules-permitted : {old new : Table} → Together old new → (d : ℕ) (site : Site) → ByViews old new d site → Permitted old new d site
+unfolding rules-of
+rules-permitted {old} {new} 𝓣 d site (to, own) = record {
+  for-d = to;
+  knows = λ v i a. ap (λ r. r .has-route i) (own v);
+  member = λ v i j a f. ap (λ r. has (next-hops (by v old new) i d) (r .hop i j)) (own v) ∙ chosen-leads (by v old new) (obeys 𝓣 v) i d a f;
+  drops = λ v i j e. let dropped : rules-of (by v old new) d .discards i j ≡ true = cc in ap (λ r. r .discards i j) (own v) ∙ dropped;
 }
 
 -- two routers are not each other's next hop
@@ -65,13 +70,18 @@ not-back t o i j d e = go (has (next-hops t i d) j) refl
     go true q = absurd (omega (arith, has-next t o j d i .0 e, has-next t o i d j .0 q))
     go false q = refl
 
-pub base-willing : {old new : Table} → Together old new → (d : ℕ) → Willing new d (site-of old new d)
-unfolding site-of rules-of
-base-willing {old} {new} 𝓣 d = record {
-  starts-on = λ i a. has-below (next-hops new i d) 64 starts-here (sets-fit new (𝓣 .new-obeys) i d) (omega arith);
-  goes-on = λ i j a. not-back new (𝓣 .new-obeys) i j d;
-  carried = λ i k l. lt-ltb 0 (weight new i k) l;
+pub rules-willing : {old new : Table} → Together old new → (d : ℕ) (site : Site) → ByViews old new d site
+    → ((i k : ℕ) → 0 < weight new i k → site .carries i k ≡ true) → Willing new d site
+unfolding rules-of
+rules-willing {old} {new} 𝓣 d site (to, own) carried = record {
+  starts-on = λ i a. ap (λ r. r .discards i starts-here) (own new-view) ∙ kept i;
+  goes-on = λ i j a e. ap (λ r. r .discards i j) (own new-view) ∙ not-back new (𝓣 .new-obeys) i j d e;
+  carried = carried;
 }
+  where
+    -- no set has 255
+    kept : (i : ℕ) → rules-of new d .discards i starts-here ≡ false
+    kept i = has-below (next-hops new i d) 64 starts-here (sets-fit new (𝓣 .new-obeys) i d) (omega arith)
 
 -- what holds at each hop
 Hops-map : (P Q : ℕ → ℕ → Type 0) → ((i k : ℕ) → P i k → Q i k) → (is : List ℕ) → Hops P is → Hops Q is
@@ -79,13 +89,24 @@ Hops-map P Q f [] h = tt
 Hops-map P Q f (i ∷ []) h = tt
 Hops-map P Q f (i ∷ k ∷ ks) h = (f i k (h .0), Hops-map P Q f (k ∷ ks) (h .1))
 
+-- the site of document 01 is one
+site-by-views : (old new : Table) (d : ℕ) → ByViews old new d (site-of old new d)
+unfolding site-of
+site-by-views old new d = (refl, λ v. refl)
+
+-- and its links are those of the new table
+carries-new : (old new : Table) (d i k : ℕ) → (site-of old new d .carries i k ≡ true) ↔ (0 < weight new i k)
+unfolding site-of
+carries-new old new d i k = (ltb-true 0 (weight new i k), lt-ltb 0 (weight new i k))
+
 pub demand3-of-path : (old new : Table) (s d : ℕ) (choice : Choice) → Together old new → s < new .routers → d < new .routers → Demand3OfPath old new s d choice
-unfolding site-of entry
+unfolding entry
 demand3-of-path old new s d choice 𝓣 b h =
-    let 𝓓 = demand3-for-any-rules old new s d (site-of old new d) choice 𝓣 b h (base-permitted 𝓣 d) in
+    let own = site-by-views old new d in
+    let 𝓓 = demand3-for-any-rules old new s d (site-of old new d) choice 𝓣 b h (rules-permitted 𝓣 d (site-of old new d) own) in
     record {
       general = 𝓓;
-      by-entries = λ v i j. refl;
-      over-new-links = Hops-map _ _ (λ i k e. ltb-true 0 (weight new i k) e) (path old new choice s d .trace) (𝓓 .loopless .over-links);
-      all-new = 𝓓 .all-new (base-willing 𝓣 d);
+      by-entries = λ v i j. ap (λ r. entry-by r i j d) (own .1 v);
+      over-new-links = Hops-map _ _ (λ i k. carries-new old new d i k .0) (path old new choice s d .trace) (𝓓 .loopless .over-links);
+      all-new = 𝓓 .all-new (rules-willing 𝓣 d (site-of old new d) own (λ i k. carries-new old new d i k .1));
     }
