@@ -10,12 +10,12 @@ use native.Mathlib.Omega.{arith}
 use lib.Dec.{eqb, ltb, leb}
 use lib.ListN.{length, take}
 use borrow.Author.Tests.{ltb-true, ltb-false, leb-true, leb-false, eqb-true, eqb-false, le-ltb, le-leb, lt-leb, eq-eqb, ne-eqb, not-false}
-use Rattle.rules.specs.Words.{pick, Line, _when_, first_otherwise_, All}
+use Rattle.rules.specs.Words.{pick, Line, first_otherwise_, All}
 use Rattle.rules.specs.Layout.{Table}
 use Rattle.rules.specs.Table.{read, number-of, says}
 use Rattle.rules.specs.Pairs.{differing, too-different}
-use Rattle.rules.specs.Questions.{Refusal, refusal, bad-table, answer, bad-previous, read-answer, pair-answer, fill-answer, entry-answer, interfaces-answer, path-refusals, few-views, bad-views, path-answer, name-answer, two-names-answer}
-use Rattle.rules.specs.Demand1.{accepts, AcceptedTogether, PathAsked, AnsweredExactly}
+use Rattle.rules.specs.Questions.{Refusal, refusal, bad-table, answer, bad-previous, read-answer, pair-answer, fill-answer, entry-answer, interfaces-answer, few-views, bad-views, path-answer, name-answer, two-names-answer}
+use Rattle.rules.specs.Demand1.{Answered, accepts, AnsweredExactly}
 use Rattle.rules.proofs.Basics.{neither, every-true, true-every}
 
 -- ---- where nothing is refused no line applies
@@ -41,9 +41,10 @@ all-quiet [] h = refl
 all-quiet (l ∷ ls) h = rw (h .0) (all-quiet ls (h .1))
 
 -- a question is answered exactly where none of its lines applies
-unrefused : {A : Type 0} (ls : List (Line Refusal)) (zeros values : A) → All Refuses ls → (answer ls zeros values .refusal .number ≡ 0) ↔ All Quiet ls
+exactly : {A P : Type 0} (ls : List (Line Refusal)) (zeros values : A) → All Refuses ls → (All Quiet ls → P) → (P → All Quiet ls)
+    → Answered (answer ls zeros values) ↔ P
 unfolding answer
-unrefused ls zeros values h = (none-applies ls h, all-quiet ls)
+exactly ls zeros values h out back = (λ e. out (none-applies ls h e), λ p. all-quiet ls (back p))
 
 -- ---- the lines
 
@@ -115,151 +116,67 @@ quiet-views t views =
 
 -- ---- the questions
 
-exactly-read : (table : List ℕ) → (read-answer table .refusal .number ≡ 0) ↔ accepts table
-unfolding read-answer
-exactly-read table =
-    let u = unrefused (bad-table 0 table ∷ []) _ _ (table-refuses 0 table, tt) in
-    (λ e. quiet-table 0 table .0 (u .0 e .0), λ a. u .1 (quiet-table 0 table .1 a, tt))
-
-exactly-pair : (old new : List ℕ) → (pair-answer old new .refusal .number ≡ 0) ↔ AcceptedTogether old new
-unfolding pair-answer
-exactly-pair old new =
-    let u = unrefused (bad-table 0 old ∷ bad-table 1 new ∷ refusal 8 when too-different (says old) (says new) ∷ []) _ _
-    (table-refuses 0 old, (table-refuses 1 new, (λ e. omega arith, tt)))
-    in
-    let p = quiet-pair (says old) (says new) in (
-      λ e.
-          let (a, (b, (c, d))) = u .0 e in
-          record { old-accepted = quiet-table 0 old .0 a; new-accepted = quiet-table 1 new .0 b; same-routers = p .0 c .0; one-link = p .0 c .1 },
-      λ h. u .1 (quiet-table 0 old .1 (h .old-accepted), (quiet-table 1 new .1 (h .new-accepted), (p .1 (h .same-routers, h .one-link), tt))),
-    )
-
-exactly-fill : (table : List ℕ) (d : ℕ) (costs sets : List ℕ)
-    → (fill-answer table d costs sets .refusal .number ≡ 0)
-    ↔ (accepts table × (d < says table .routers) × (says table .routers ≤ length costs) × (says table .routers ≤ length sets))
-unfolding fill-answer
-exactly-fill table d costs sets =
-    let n = says table .routers in
-    let u = unrefused (bad-table 0 table ∷ refusal 9 when leb n d ∷ refusal 10 when (ltb (length costs) n || ltb (length sets) n) ∷ []) _ _
-    (table-refuses 0 table, (λ e. omega arith, (λ e. omega arith, tt)))
-    in
-    let r = quiet-or (ltb (length costs) n) (ltb (length sets) n) (quiet-< (length costs) n) (quiet-< (length sets) n) in (
-      λ e.
-          let (a, (b, (c, z))) = u .0 e in
-          (quiet-table 0 table .0 a, leb-false n d b, r .0 c .0, r .0 c .1),
-      λ (a, b, c, z). u .1 (quiet-table 0 table .1 a, (lt-leb n d b, (r .1 (c, z), tt))),
-    )
-
-exactly-entry : (table : List ℕ) (i j d : ℕ)
-    → (entry-answer table i j d .refusal .number ≡ 0)
-    ↔ (accepts table × (i < says table .routers) × (d < says table .routers) × ((j ≡ 255) ⊎ (j < says table .routers)) × (j ≢ i))
-unfolding entry-answer
-exactly-entry table i j d =
-    let t = says table in
-    let u = unrefused (bad-table 0 table ∷ refusal 9 when (leb (t .routers) i || leb (t .routers) d || bad-previous t i j) ∷ []) _ _
-    (table-refuses 0 table, (λ e. omega arith, tt))
-    in
-    let r = quiet-or (leb (t .routers) i || leb (t .routers) d) (bad-previous t i j)
-    (quiet-or (leb (t .routers) i) (leb (t .routers) d) (quiet-≤ (t .routers) i) (quiet-≤ (t .routers) d)) (quiet-previous t i j)
-    in (
-      λ e.
-          let (a, (b, z)) = u .0 e in
-          let ((c, f), (g, h)) = r .0 b in
-          (quiet-table 0 table .0 a, c, f, g, h),
-      λ (a, c, f, g, h). u .1 (quiet-table 0 table .1 a, (r .1 ((c, f), (g, h)), tt)),
-    )
-
-exactly-interfaces : (table : List ℕ) (i : ℕ) (out : List ℕ)
-    → (interfaces-answer table i out .refusal .number ≡ 0)
-    ↔ (accepts table × (i < says table .routers) × ((says table .routers + 1) * says table .routers ≤ length out))
-unfolding interfaces-answer
-exactly-interfaces table i out =
-    let n = says table .routers in
-    let u = unrefused (bad-table 0 table ∷ refusal 9 when leb n i ∷ refusal 10 when ltb (length out) ((n + 1) * n) ∷ []) _ _
-    (table-refuses 0 table, (λ e. omega arith, (λ e. omega arith, tt)))
-    in (
-      λ e.
-          let (a, (b, (c, z))) = u .0 e in
-          (quiet-table 0 table .0 a, leb-false n i b, ltb-false (length out) ((n + 1) * n) c),
-      λ (a, b, c). u .1 (quiet-table 0 table .1 a, (lt-leb n i b, (le-ltb (length out) ((n + 1) * n) c, tt))),
-    )
-
-exactly-path : (old new : List ℕ) (s d : ℕ) (views trace : List ℕ)
-    → (path-answer old new s d views trace .refusal .number ≡ 0) ↔ PathAsked old new s d views trace
-unfolding path-answer
-exactly-path old new s d views trace =
-    let t = says new in
-    let u = unrefused (path-refusals old new s d views trace) _ _
-    (table-refuses 0 old, (table-refuses 1 new, (λ e. omega arith, (λ e. omega arith, (λ e. omega arith, (λ e. omega arith, tt))))))
-    in
-    let p = quiet-pair (says old) t in
-    let r = quiet-or (leb (t .routers) s) (leb (t .routers) d) (quiet-≤ (t .routers) s) (quiet-≤ (t .routers) d) in
-    let v = quiet-views t views in (
-      λ e.
-          let (r₀, (r₁, (r₂, (r₃, (r₄, (r₅, r₆)))))) = u .0 e in
-          record {
-            together = record {
-              old-accepted = quiet-table 0 old .0 r₀;
-              new-accepted = quiet-table 1 new .0 r₁;
-              same-routers = p .0 r₂ .0;
-              one-link = p .0 r₂ .1;
-            };
-            from-router = r .0 r₃ .0;
-            to-router = r .0 r₃ .1;
-            views-enough = v .0 r₄ .0;
-            views-good = v .0 r₄ .1;
-            room = ltb-false (length trace) (t .routers) r₅;
-          },
-      λ h.
-          u .1 (
-            quiet-table 0 old .1 (h .together .old-accepted),
-            (
-              quiet-table 1 new .1 (h .together .new-accepted),
-              (
-                p .1 (h .together .same-routers, h .together .one-link),
-                (
-                  r .1 (h .from-router, h .to-router),
-                  (v .1 (h .views-enough, h .views-good), (le-ltb (length trace) (t .routers) (h .room), tt)),
-                ),
-              ),
-            ),
-          ),
-    )
-
-exactly-name : (table : List ℕ) (i : ℕ) → (name-answer table i .refusal .number ≡ 0) ↔ (accepts table × (i < says table .routers))
-unfolding name-answer
-exactly-name table i =
-    let u = unrefused (bad-table 0 table ∷ refusal 9 when leb (says table .routers) i ∷ []) _ _ (table-refuses 0 table, (λ e. omega arith, tt)) in (
-      λ e.
-          let (a, (b, z)) = u .0 e in
-          (quiet-table 0 table .0 a, leb-false (says table .routers) i b),
-      λ (a, b). u .1 (quiet-table 0 table .1 a, (lt-leb (says table .routers) i b, tt)),
-    )
-
-exactly-two-names : (old new : List ℕ) (i : ℕ)
-    → (two-names-answer old new i .refusal .number ≡ 0) ↔ (accepts old × accepts new × (i < says old .routers) × (i < says new .routers))
-unfolding two-names-answer
-exactly-two-names old new i =
-    let m = says old .routers in
-    let n = says new .routers in
-    let u = unrefused (bad-table 0 old ∷ bad-table 1 new ∷ refusal 9 when (leb m i || leb n i) ∷ []) _ _
-    (table-refuses 0 old, (table-refuses 1 new, (λ e. omega arith, tt)))
-    in
-    let r = quiet-or (leb m i) (leb n i) (quiet-≤ m i) (quiet-≤ n i) in (
-      λ e.
-          let (a, (b, (c, z))) = u .0 e in
-          (quiet-table 0 old .0 a, quiet-table 1 new .0 b, r .0 c .0, r .0 c .1),
-      λ (a, b, c, z). u .1 (quiet-table 0 old .1 a, (quiet-table 1 new .1 b, (r .1 (c, z), tt))),
-    )
-
 pub answered-exactly : AnsweredExactly
+unfolding read-answer pair-answer fill-answer entry-answer interfaces-answer path-answer name-answer two-names-answer
 answered-exactly = record {
-  of-read = exactly-read;
-  of-pair = exactly-pair;
-  of-fill = exactly-fill;
-  of-entry = exactly-entry;
-  of-interfaces = exactly-interfaces;
-  of-path = exactly-path;
-  of-name = exactly-name;
-  of-two-names = exactly-two-names;
+  of-read = λ table.
+      exactly _ _ _ (table-refuses 0 table, tt) (λ (a, z). quiet-table 0 table .0 a) (λ a. (quiet-table 0 table .1 a, tt));
+  of-pair = λ old new.
+      let p = quiet-pair (says old) (says new) in
+      exactly _ _ _ (table-refuses 0 old, (table-refuses 1 new, (λ e. omega arith, tt)))
+      (λ (a, (b, (c, z))).
+      record { old-accepted = quiet-table 0 old .0 a; new-accepted = quiet-table 1 new .0 b; same-routers = p .0 c .0; one-link = p .0 c .1 })
+      (λ h. (quiet-table 0 old .1 (h .old-accepted), (quiet-table 1 new .1 (h .new-accepted), (p .1 (h .same-routers, h .one-link), tt))));
+  of-fill = λ table d costs sets.
+      let n = says table .routers in
+      let r = quiet-or (ltb (length costs) n) (ltb (length sets) n) (quiet-< (length costs) n) (quiet-< (length sets) n) in
+      exactly _ _ _ (table-refuses 0 table, (λ e. omega arith, (λ e. omega arith, tt)))
+      (λ (a, (b, (c, z))). (quiet-table 0 table .0 a, leb-false n d b, r .0 c .0, r .0 c .1))
+      (λ (a, b, c, z). (quiet-table 0 table .1 a, (lt-leb n d b, (r .1 (c, z), tt))));
+  of-entry = λ table i j d.
+      let t = says table in
+      let n = t .routers in
+      let r = quiet-or (leb n i || leb n d) (bad-previous t i j) (quiet-or (leb n i) (leb n d) (quiet-≤ n i) (quiet-≤ n d)) (quiet-previous t i j) in
+      exactly _ _ _ (table-refuses 0 table, (λ e. omega arith, tt))
+      (λ (a, (b, z)). let ((c, f), (g, h)) = r .0 b in (quiet-table 0 table .0 a, c, f, g, h))
+      (λ (a, c, f, g, h). (quiet-table 0 table .1 a, (r .1 ((c, f), (g, h)), tt)));
+  of-interfaces = λ table i out.
+      let n = says table .routers in
+      exactly _ _ _ (table-refuses 0 table, (λ e. omega arith, (λ e. omega arith, tt)))
+      (λ (a, (b, (c, z))). (quiet-table 0 table .0 a, leb-false n i b, ltb-false (length out) ((n + 1) * n) c))
+      (λ (a, b, c). (quiet-table 0 table .1 a, (lt-leb n i b, (le-ltb (length out) ((n + 1) * n) c, tt))));
+  of-path = λ old new s d views trace.
+      let n = says new .routers in
+      let p = quiet-pair (says old) (says new) in
+      let r = quiet-or (leb n s) (leb n d) (quiet-≤ n s) (quiet-≤ n d) in
+      let v = quiet-views (says new) views in
+      exactly _ _ _ (table-refuses 0 old, (table-refuses 1 new, (λ e. omega arith, (λ e. omega arith, (λ e. omega arith, (λ e. omega arith, tt))))))
+      (λ (r₀, (r₁, (r₂, (r₃, (r₄, (r₅, r₆)))))).
+      record {
+        together = record { old-accepted = quiet-table 0 old .0 r₀; new-accepted = quiet-table 1 new .0 r₁; same-routers = p .0 r₂ .0; one-link = p .0 r₂ .1 };
+        from-router = r .0 r₃ .0;
+        to-router = r .0 r₃ .1;
+        views-enough = v .0 r₄ .0;
+        views-good = v .0 r₄ .1;
+        room = ltb-false (length trace) n r₅;
+      })
+      (λ h.
+      let q₀ = quiet-table 0 old .1 (h .together .old-accepted) in
+      let q₁ = quiet-table 1 new .1 (h .together .new-accepted) in
+      let q₂ = p .1 (h .together .same-routers, h .together .one-link) in
+      let q₃ = r .1 (h .from-router, h .to-router) in
+      let q₄ = v .1 (h .views-enough, h .views-good) in
+      (q₀, (q₁, (q₂, (q₃, (q₄, (le-ltb (length trace) n (h .room), tt)))))));
+  of-name = λ table i.
+      let n = says table .routers in
+      exactly _ _ _ (table-refuses 0 table, (λ e. omega arith, tt))
+      (λ (a, (b, z)). (quiet-table 0 table .0 a, leb-false n i b))
+      (λ (a, b). (quiet-table 0 table .1 a, (lt-leb n i b, tt)));
+  of-two-names = λ old new i.
+      let m = says old .routers in
+      let n = says new .routers in
+      let r = quiet-or (leb m i) (leb n i) (quiet-≤ m i) (quiet-≤ n i) in
+      exactly _ _ _ (table-refuses 0 old, (table-refuses 1 new, (λ e. omega arith, tt)))
+      (λ (a, (b, (c, z))). (quiet-table 0 old .0 a, quiet-table 1 new .0 b, r .0 c .0, r .0 c .1))
+      (λ (a, b, c, z). (quiet-table 0 old .1 a, (quiet-table 1 new .1 b, (r .1 (c, z), tt))));
 }
