@@ -1,17 +1,15 @@
 -- Demand 3 for two accepted byte strings, and for the path question that is not refused; and that every choice of views can be asked for.
 -- Assumes nothing.
-use mathlib.Core.Path.{_≡_}
 use mathlib.Core.List.{List}
 use Prim.Native.Nat.{ℕ, _-_}
 use native.Mathlib.Omega.{arith}
 use lib.Seq.{take-all}
 use Rattle.rules.specs.Table.{says}
 use Rattle.rules.specs.Paths.{listed}
-use Rattle.rules.specs.Questions.{ending, path-refusals, trip-of, path-answer}
+use Rattle.rules.specs.Questions.{trip-of}
 use Rattle.rules.specs.Demand1.{AcceptedTogether, PathAsked}
 use Rattle.rules.specs.Demand3.{Together, Demand3OfPath, Demand3ForAccepted, Demand3ForQuestions, EveryChoiceCanBeAsked}
 use Rattle.rules.proofs.Acceptance.{obeys}
-use Rattle.rules.proofs.Refusals.{gives-values}
 use Rattle.rules.proofs.Cases.{answered-exactly}
 use Rattle.rules.proofs.Demand3.{demand3-of-path}
 
@@ -27,17 +25,10 @@ together {old} {new} 𝓐 = record {
 pub demand3-for-accepted : Demand3ForAccepted
 demand3-for-accepted old new s d choice 𝓐 = demand3-of-path (says old) (says new) s d choice (together 𝓐)
 
--- what is answered
-given : (old new : List ℕ) (s d : ℕ) (views trace : List ℕ) → path-answer old new s d views trace .refusal .number ≡ 0
-    → path-answer old new s d views trace .values ≡ ending (trip-of old new s d views)
-unfolding path-answer
-given old new s d views trace e = gives-values (path-refusals old new s d views trace) _ _ e
-
 pub demand3-for-questions : Demand3ForQuestions
 unfolding trip-of
 demand3-for-questions old new s d views trace e = record {
   demand3 = 𝓓;
-  answered = given old new s d views trace e;
   bytes-found = omega (arith, 𝓓 .general .loopless .enough, q .views-enough);
 }
   where

@@ -14,8 +14,8 @@ use Rattle.rules.specs.Words.{pick, Line, first_otherwise_, All}
 use Rattle.rules.specs.Layout.{Table}
 use Rattle.rules.specs.Table.{read, number-of, says}
 use Rattle.rules.specs.Pairs.{differing, too-different}
-use Rattle.rules.specs.Questions.{Refusal, refusal, bad-table, answer, bad-previous, read-answer, pair-answer, fill-answer, entry-answer, interfaces-answer, few-views, bad-views, path-answer, name-answer, two-names-answer}
-use Rattle.rules.specs.Demand1.{Answered, accepts, AnsweredExactly}
+use Rattle.rules.specs.Questions.{Refusal, refusal, table-refusal, answer, bad-previous, read-answer, pair-answer, fill-answer, entry-answer, interfaces-answer, few-views, bad-views, path-answer, name-answer, two-names-answer}
+use Rattle.rules.specs.Demand1.{Answered, IsAccepted, AnsweredExactly}
 use Rattle.rules.proofs.Basics.{neither, every-true, true-every}
 
 -- ---- where nothing is refused no line applies
@@ -48,12 +48,12 @@ exactly ls zeros values h out back = (λ e. out (none-applies ls h e), λ p. all
 
 -- ---- the lines
 
-table-refuses : (which : ℕ) (bytes : List ℕ) → Refuses (bad-table which bytes)
-unfolding bad-table
+table-refuses : (which : ℕ) (bytes : List ℕ) → Refuses (table-refusal which bytes)
+unfolding table-refusal
 table-refuses which bytes e = omega (arith, ltb-true 0 (number-of (read bytes)) e)
 
-quiet-table : (which : ℕ) (bytes : List ℕ) → Quiet (bad-table which bytes) ↔ accepts bytes
-unfolding bad-table
+quiet-table : (which : ℕ) (bytes : List ℕ) → Quiet (table-refusal which bytes) ↔ IsAccepted bytes
+unfolding table-refusal
 quiet-table which bytes = (λ e. omega (arith, ltb-false 0 (number-of (read bytes)) e), λ e. le-ltb 0 (number-of (read bytes)) (omega arith))
 
 -- a test that is an order

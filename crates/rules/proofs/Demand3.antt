@@ -14,7 +14,7 @@ use Rattle.rules.specs.Links.{weight}
 use Rattle.rules.specs.NextHops.{has, next-hops}
 use Rattle.rules.specs.Entries.{entry-by, rules-of, starts-here, entry}
 use Rattle.rules.specs.Paths.{View, new-view, by, Choice, Trip, Site, journey, site-of, path}
-use Rattle.rules.specs.Demand3.{Follows, Together, Permitted, Willing, Hops, Loopless, Demand3ForAnyRules, Demand3OfPath}
+use Rattle.rules.specs.Demand3.{Follows, Together, Permitted, Willing, EachHop, Loopless, Demand3ForAnyRules, Demand3OfPath}
 use Rattle.rules.proofs.Sets.{has-below, has-next, sets-fit}
 use Rattle.rules.proofs.Entries.{chosen-leads}
 use Rattle.rules.proofs.LoopFree.{bounded, one-trip, obeys, follows, loopless}
@@ -59,7 +59,7 @@ rules-permitted {old} {new} 𝓣 d site (to, own) = record {
   for-d = to;
   knows = λ v i a. ap (λ r. r .has-route i) (own v);
   member = λ v i j a f. ap (λ r. has (next-hops (by v old new) i d) (r .hop i j)) (own v) ∙ chosen-leads (by v old new) (obeys 𝓣 v) i d a f;
-  drops = λ v i j e. let dropped : rules-of (by v old new) d .discards i j ≡ true = cc in ap (λ r. r .discards i j) (own v) ∙ dropped;
+  discards-pipo = λ v i j e. let dropped : rules-of (by v old new) d .discards i j ≡ true = cc in ap (λ r. r .discards i j) (own v) ∙ dropped;
 }
 
 -- two routers are not each other's next hop
@@ -84,10 +84,10 @@ rules-willing {old} {new} 𝓣 d site (to, own) carried = record {
     kept i = has-below (next-hops new i d) 64 starts-here (sets-fit new (𝓣 .new-obeys) i d) (omega arith)
 
 -- what holds at each hop
-Hops-map : (P Q : ℕ → ℕ → Type 0) → ((i k : ℕ) → P i k → Q i k) → (is : List ℕ) → Hops P is → Hops Q is
-Hops-map P Q f [] h = tt
-Hops-map P Q f (i ∷ []) h = tt
-Hops-map P Q f (i ∷ k ∷ ks) h = (f i k (h .0), Hops-map P Q f (k ∷ ks) (h .1))
+EachHop-map : (P Q : ℕ → ℕ → Type 0) → ((i k : ℕ) → P i k → Q i k) → (is : List ℕ) → EachHop P is → EachHop Q is
+EachHop-map P Q f [] h = tt
+EachHop-map P Q f (i ∷ []) h = tt
+EachHop-map P Q f (i ∷ k ∷ ks) h = (f i k (h .0), EachHop-map P Q f (k ∷ ks) (h .1))
 
 -- the site of document 01 is one
 site-by-views : (old new : Table) (d : ℕ) → ByViews old new d (site-of old new d)
@@ -107,6 +107,6 @@ demand3-of-path old new s d choice 𝓣 b h =
     record {
       general = 𝓓;
       by-entries = λ v i j. ap (λ r. entry-by r i j d) (own .1 v);
-      over-new-links = Hops-map _ _ (λ i k. carries-new old new d i k .0) (path old new choice s d .trace) (𝓓 .loopless .over-links);
+      over-new-links = EachHop-map _ _ (λ i k. carries-new old new d i k .0) (path old new choice s d .trace) (𝓓 .loopless .over-links);
       all-new = 𝓓 .all-new (rules-willing 𝓣 d (site-of old new d) own (λ i k. carries-new old new d i k .1));
     }

@@ -20,5 +20,6 @@ pub mod ViewLists
 pub mod Demand3
 pub mod Answered
 pub mod Outputs
+pub mod Values
 pub mod Uniqueness
 pub mod Examples

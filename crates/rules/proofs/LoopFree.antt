@@ -34,7 +34,7 @@ use Rattle.rules.specs.Paths.{
   entry-at,
   follow,
 }
-use Rattle.rules.specs.Demand3.{Follows, delivers, discards, has-none, loses, crosses, Together, Permitted, Hops, deciders, Loopless}
+use Rattle.rules.specs.Demand3.{Follows, delivers, discards, has-none, loses, crosses, Together, Permitted, EachHop, deciders, Loopless}
 use Rattle.rules.proofs.Basics.{pigeonhole}
 use Rattle.rules.proofs.CostLaws.{Net, BothWays, Costs}
 use Rattle.rules.proofs.Weights.{net, both-ways}
@@ -52,9 +52,9 @@ deciders-suc unrouted hops = refl
 deciders-suc lost hops = refl
 
 -- what holds of a hop and of those behind it
-more-hops : (P : ℕ → ℕ → Type 0) (i k : ℕ) (is ks : List ℕ) → is ≡ k ∷ ks → P i k → Hops P is → Hops P (i ∷ is)
+more-hops : (P : ℕ → ℕ → Type 0) (i k : ℕ) (is ks : List ℕ) → is ≡ k ∷ ks → P i k → EachHop P is → EachHop P (i ∷ is)
 more-hops P i k is ks e p h =
-    let h′ : Hops P (k ∷ ks) = rw e at h in
+    let h′ : EachHop P (k ∷ ks) = rw e at h in
     rw e (p, h′)
 
 -- ---- what every answer of the rules is like, whatever the rules
@@ -84,7 +84,7 @@ module _ {site : Site} {choice : Choice} where
   finished (crosses e f r) = finished r
 
   -- every link crossed carries
-  carried : {n i j : ℕ} {trip : Trip} → Follows site choice n i j trip → Hops (λ i k. site .carries i k ≡ true) (trip .trace)
+  carried : {n i j : ℕ} {trip : Trip} → Follows site choice n i j trip → EachHop (λ i k. site .carries i k ≡ true) (trip .trace)
   carried (delivers e) = tt
   carried (discards e) = tt
   carried (has-none e) = tt
@@ -156,7 +156,7 @@ module _ {old new : Table} {d : ℕ} {site : Site} (𝓣 : Together old new) (�
           let finite = ltb-true (cost (by v old new) i d) no-cost (sym (𝓟 .knows v i elsewhere) ∙ r) in
           record {
             onward = has-next (by v old new) (obeys 𝓣 v) i d (site .rules v .hop i j) .0 (𝓟 .member v i j elsewhere finite);
-            kept = λ s. false≢true (sym t ∙ 𝓟 .drops v i j (has-next (by v old new) (obeys 𝓣 v) i d j .1 s));
+            kept = λ s. false≢true (sym t ∙ 𝓟 .discards-pipo v i j (has-next (by v old new) (obeys 𝓣 v) i d j .1 s));
           }
 
   module _ (choice : Choice) where

@@ -10,7 +10,7 @@ use native.Mathlib.Omega.{arith}
 use lib.Dec.{eqb}
 use borrow.Author.Tests.{eqb-true, eqb-false, not-true, eq-eqb, ne-eqb}
 use Rattle.rules.specs.Words.{pick, tally, All, Rising}
-use Rattle.rules.specs.Layout.{Link, Table, LinkFits, pair, Obeys}
+use Rattle.rules.specs.Layout.{Link, Table, LinkFits, pair-number, Obeys}
 use Rattle.rules.specs.Links.{joins, weight-in, weight}
 use Rattle.rules.specs.Pairs.{differing}
 use Rattle.rules.specs.Demand1.{SameEnds, OneChange, DiffersExactly}
@@ -61,8 +61,8 @@ module _ (p : Link → Bool) where
       go false e ih h = let (l, m, s) = ih (omega arith) in (l, List·Memᴰ·tail m, s)
 
   -- where the links that pass have one pair, one is counted at most, because the pairs rise
-  one-pair : (ls : List Link) → Rising (map pair ls)
-      → ((l m : Link) → List·Memᴰ l ls → List·Memᴰ m ls → p l ≡ true → p m ≡ true → pair l ≡ pair m) → tally p ls ≤ 1
+  one-pair : (ls : List Link) → Rising (map pair-number ls)
+      → ((l m : Link) → List·Memᴰ l ls → List·Memᴰ m ls → p l ≡ true → p m ≡ true → pair-number l ≡ pair-number m) → tally p ls ≤ 1
   unfolding tally
   one-pair [] r same = omega arith
   one-pair (k ∷ ls) r same = go (p k) refl (decLt 0 (tally p ls)) (one-pair ls (r .1) (λ l m i j. same l m (List·Memᴰ·tail i) (List·Memᴰ·tail j)))
@@ -70,7 +70,7 @@ module _ (p : Link → Bool) where
       go : (t : Bool) → p k ≡ t → Dec (0 < tally p ls) → tally p ls ≤ 1 → pick t 1 0 + tally p ls ≤ 1
       go true e (yes h) ih =
           let (m, i, s) = passing ls h in
-          let higher : pair k < pair m = of-listed (λ x. pair k < x) (map pair ls) (r .0) (pair m) (Memᴰ·map pair i) in
+          let higher : pair-number k < pair-number m = of-listed (λ x. pair-number k < x) (map pair-number ls) (r .0) (pair-number m) (Memᴰ·map pair-number i) in
           absurd (omega (arith, same k m (List·Memᴰ·head refl) (List·Memᴰ·tail i) e s))
       go true e (no h) ih = omega arith
       go false e d ih = omega arith
@@ -105,7 +105,7 @@ same-ends l m i k a b e (inr (p, q)) (inl (r, s)) = inr (omega (arith, ap (λ l.
 same-ends l m i k a b e (inr (p, q)) (inr (r, s)) = inl (omega (arith, ap (λ l. l .b) e), omega (arith, ap (λ l. l .a) e))
 
 -- two links whose ends rise and are the same have one pair
-same-pair : (n : ℕ) (l m : Link) → LinkFits n l → LinkFits n m → SameEnds (l .a) (l .b) (m .a) (m .b) → pair l ≡ pair m
+same-pair : (n : ℕ) (l m : Link) → LinkFits n l → LinkFits n m → SameEnds (l .a) (l .b) (m .a) (m .b) → pair-number l ≡ pair-number m
 same-pair n l m f g (inl e) = omega arith
 same-pair n l m f g (inr e) = omega arith
 

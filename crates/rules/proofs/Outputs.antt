@@ -45,7 +45,7 @@ length-rows t i (j ∷ js) =
     length-append (row t i j) (flatten (map (row t i) js))
     ∙ omega (arith, length-row t i j, length-rows t i js, suc-mul (length js) (t .routers))
 
-length-interfaces : (t : Table) (i : ℕ) → length (interfaces t i) ≡ (t .routers + 1) * t .routers
+pub length-interfaces : (t : Table) (i : ℕ) → length (interfaces t i) ≡ (t .routers + 1) * t .routers
 unfolding interfaces
 length-interfaces t i =
     let e : suc (length (below (t .routers))) ≡ t .routers + 1 = omega (arith, length-below (t .routers)) in

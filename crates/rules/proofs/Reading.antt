@@ -11,7 +11,7 @@ use lib.Dec.{ltb}
 use lib.ListN.{length, drop, length-append, drop-of-length-le}
 use borrow.Author.Tests.{ltb-false}
 use Rattle.rules.specs.Words.{pick, those, All, Rising}
-use Rattle.rules.specs.Layout.{Name, Link, Table, tag-routers, tag-name, tag-link, tag-end, Bytes, NameFits, LinkFits, pair, Placed, Obeys, record-bytes, name-bytes, link-bytes, written}
+use Rattle.rules.specs.Layout.{Name, Link, Table, tag-routers, tag-name, tag-link, tag-end, Bytes, NameFits, LinkFits, pair-number, Placed, Obeys, record-bytes, name-bytes, link-bytes, written}
 use Rattle.rules.specs.Table.{byte, Record, name-of, link-of, key, Kept, nothing-kept, keep, record-in, Judged, accepted, refused, followed-by, judge, nothing-behind, read, number-of, records-of, routers-of, table-of, says}
 use Rattle.rules.proofs.Basics.{All-map}
 use Rattle.rules.proofs.Judging.{size-in, contents-in, Judges, stops, ends, goes, judge-judges}
@@ -44,7 +44,7 @@ abbrev pub named : Kept → Name → Kept
 named kept m = record { routers = kept .routers; tag = tag-name; last = m .router; links = kept .links }
 
 abbrev pub linked : Kept → Link → Kept
-linked kept l = record { routers = kept .routers; tag = tag-link; last = pair l; links = kept .links + 1 }
+linked kept l = record { routers = kept .routers; tag = tag-link; last = pair-number l; links = kept .links + 1 }
 
 pub keep-name : (kept : Kept) (place : ℕ) (contents : List ℕ)
     → keep kept (record-at place tag-name contents) ≡ named kept (name-of (record-at place tag-name contents))
@@ -59,8 +59,8 @@ pub record Allowed (kept : Kept) (place : ℕ) (names : List Name) (links : List
   pub names-first : tag-name < kept .tag → names ≡ []
   pub names-placed : Placed place names
   pub links-fit : All (LinkFits (kept .routers)) links
-  pub links-rise : Rising (map pair links)
-  pub links-above : kept .tag ≡ tag-link → All (λ k. kept .last < k) (map pair links)
+  pub links-rise : Rising (map pair-number links)
+  pub links-above : kept .tag ≡ tag-link → All (λ k. kept .last < k) (map pair-number links)
   pub few-links : length links ≤ 256 - kept .links
 
 -- what is above a number is above a lower one
@@ -106,7 +106,7 @@ module _ (kept : Kept) (place : ℕ) where
     names-placed = tt;
     links-fit = (f .fits, h .links-fit);
     links-rise = (h .links-above refl, h .links-rise);
-    links-above = λ e. (f .rises e, above-lower (kept .last) (pair l) (f .rises e) (map pair ls) (h .links-above refl));
+    links-above = λ e. (f .rises e, above-lower (kept .last) (pair-number l) (f .rises e) (map pair-number ls) (h .links-above refl));
     few-links = omega (arith, h .few-links, f .one-more);
   }
 

@@ -12,7 +12,7 @@ use lib.ListN.{length, drop, length-drop, length-append, take-append-drop, drop-
 use lib.Seq.{length-take-le, take-at, drop-at, drop-cons, drop-drop}
 use borrow.Author.Tests.{ltb-true, ltb-false, leb-true, leb-false, eqb-true, eqb-false, lt-ltb, le-ltb, le-leb, lt-leb, eq-eqb, ne-eqb, not-false}
 use Rattle.rules.specs.Words.{pick, every}
-use Rattle.rules.specs.Layout.{Name, Link, tag-routers, tag-name, tag-link, tag-end, NameFits, LinkFits, pair, record-bytes}
+use Rattle.rules.specs.Layout.{Name, Link, tag-routers, tag-name, tag-link, tag-end, NameFits, LinkFits, pair-number, record-bytes}
 use Rattle.rules.specs.Table.{byte, Record, name-of, link-of, known-tag, length-allowed, routers-fit, name-byte, name-fits, link-fits, contents-fit, key, Kept, bad-tag, not-above, too-many}
 use Rattle.rules.proofs.Basics.{both, both-pass, neither, every-true, true-every}
 use Rattle.rules.proofs.Judging.{Good, size-in, contents-in}
@@ -296,7 +296,7 @@ link-in n l f =
 pub record LinkAllowed (kept : Kept) (l : Link) : Type 0 where
   pub fits : LinkFits (kept .routers) l
   pub in-turn : kept .tag ≤ tag-link
-  pub rises : kept .tag ≡ tag-link → kept .last < pair l
+  pub rises : kept .tag ≡ tag-link → kept .last < pair-number l
   pub one-more : kept .links < 256
 
 pub fine-link : (kept : Kept) (contents : List ℕ) → Fine kept tag-link contents

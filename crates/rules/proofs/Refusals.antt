@@ -16,7 +16,7 @@ use Rattle.rules.specs.Pairs.{differing, too-different}
 use Rattle.rules.specs.Questions.{
   Refusal,
   refusal,
-  bad-table,
+  table-refusal,
   Answer,
   answer,
   afterwards,
@@ -114,8 +114,8 @@ Lists last-table numbers l = l .applies ≡ true → Listed last-table numbers (
 
 -- 1 to 7
 by-table : {last-table : ℕ} {more : List ℕ} (which : ℕ) (bytes : List ℕ) → which ≤ last-table
-    → Lists last-table (table-numbers more) (bad-table which bytes)
-unfolding bad-table
+    → Lists last-table (table-numbers more) (table-refusal which bytes)
+unfolding table-refusal
 by-table {last-table} {more} which bytes w e = go (read bytes) (read-by bytes) (ltb-true 0 (number-of (read bytes)) e)
   where
     go : (j : Judged) → By-1-to-7 j → 0 < number-of j → Listed last-table (table-numbers more) (record { number = number-of j; table = which; place = place-of j })
@@ -170,16 +170,16 @@ question-refusals = record {
 
 -- a refused table that comes first is named
 first-table : {A : Type 0} (which : ℕ) (bytes : List ℕ) (ls : List (Line Refusal)) (zeros values : A) → number-of (read bytes) ≢ 0
-    → answer (bad-table which bytes ∷ ls) zeros values .refusal ≡ of-table which bytes
-unfolding answer bad-table
+    → answer (table-refusal which bytes ∷ ls) zeros values .refusal ≡ of-table which bytes
+unfolding answer table-refusal
 first-table which bytes ls zeros values h = pick-t _ _ _ (lt-ltb 0 (number-of (read bytes)) (omega arith))
 
 -- the new one behind an old one that is accepted
 both-tables : {A : Type 0} (old new : List ℕ) (ls : List (Line Refusal)) (zeros values : A)
-    → TwoTablesFirst old new (answer (bad-table 0 old ∷ bad-table 1 new ∷ ls) zeros values)
-unfolding answer bad-table
+    → TwoTablesFirst old new (answer (table-refusal 0 old ∷ table-refusal 1 new ∷ ls) zeros values)
+unfolding answer table-refusal
 both-tables old new ls zeros values = (
-  first-table 0 old (bad-table 1 new ∷ ls) zeros values,
+  first-table 0 old (table-refusal 1 new ∷ ls) zeros values,
   λ a h.
       pick-f _ _ _ (le-ltb 0 (number-of (read old)) (omega arith))
       ∙ pick-t _ _ _ (lt-ltb 0 (number-of (read new)) (omega arith)),

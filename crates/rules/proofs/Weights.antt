@@ -9,7 +9,7 @@ use native.Mathlib.Omega.{arith}
 use lib.Dec.{eqb}
 use borrow.Author.Tests.{eqb-true, eq-eqb}
 use Rattle.rules.specs.Words.{pick, All, Rising}
-use Rattle.rules.specs.Layout.{Link, Table, LinkFits, pair, Obeys}
+use Rattle.rules.specs.Layout.{Link, Table, LinkFits, pair-number, Obeys}
 use Rattle.rules.specs.Links.{joins, weight-in, weight}
 use Rattle.rules.specs.Demand1.{SameEnds}
 use Rattle.rules.proofs.Basics.{All-zip}
@@ -58,7 +58,7 @@ module _ (n : ℕ) where
       go false e ih p = ih p
 
   -- a link with a higher pair is another link
-  other : (l m : Link) → LinkFits n l → LinkFits n m → n ≤ 64 → pair l < pair m → joins l (m .a) (m .b) ≡ false
+  other : (l m : Link) → LinkFits n l → LinkFits n m → n ≤ 64 → pair-number l < pair-number m → joins l (m .a) (m .b) ≡ false
   other l m f g few h = go (joins l (m .a) (m .b)) refl
     where
       clash : SameEnds (l .a) (l .b) (m .a) (m .b) → ⊥
@@ -70,7 +70,7 @@ module _ (n : ℕ) where
       go false e = refl
 
   -- each link of a table has its own weight
-  pub own : n ≤ 64 → (ls : List Link) → All (LinkFits n) ls → Rising (map pair ls) → All (λ m. weight-in ls (m .a) (m .b) ≡ m .weight) ls
+  pub own : n ≤ 64 → (ls : List Link) → All (LinkFits n) ls → Rising (map pair-number ls) → All (λ m. weight-in ls (m .a) (m .b) ≡ m .weight) ls
   unfolding weight-in
   own few [] f r = tt
   own few (l ∷ ls) f r = (
@@ -78,7 +78,7 @@ module _ (n : ℕ) where
     All-zip later ls (All-zip (λ m g h. other l m (f .0) g few h) ls (f .1) (apart ls (r .0))) (own few ls (f .1) (r .1)),
   )
     where
-      apart : (ms : List Link) → All (λ x. pair l < x) (map pair ms) → All (λ m. pair l < pair m) ms
+      apart : (ms : List Link) → All (λ x. pair-number l < x) (map pair-number ms) → All (λ m. pair-number l < pair-number m) ms
       apart [] h = tt
       apart (m ∷ ms) h = (h .0, apart ms (h .1))
 

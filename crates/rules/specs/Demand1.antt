@@ -1,33 +1,34 @@
--- What demand 1 says, with demand 2's last sentence, as statements: tables are accepted exactly by the layout; each question is answered, or refused
--- by a listed number, exactly in the listed cases; a refusal changes no lent memory. Each is proved in the file of `proofs/` that its heading names.
+-- What demand 1 says, with demand 2's last clause, as statements: tables are accepted exactly by the layout; each question is answered, or refused by
+-- a listed number, exactly in the listed cases; a refusal changes no lent memory, and what is written is the answer and nothing after it. Each is
+-- proved in the file of `proofs/` that its heading names.
 use mathlib.Core.Path.{_≡_}
 use mathlib.Core.Logic.{_≢_, _⊎_, _↔_}
 use mathlib.Core.List.{List, [], _∷_, map, List·Memᴰ}
 use mathlib.Core.Option.{none, some}
 use Prim.Native.Nat.{ℕ, suc, _+_, _-_, _*_, _≤_, _<_}
-use lib.ListN.{length, take, drop}
+use lib.ListN.{length, getD, take, drop}
 use Rattle.rules.specs.Words.{All, below}
 use Rattle.rules.specs.Layout.{Bytes, Name, Obeys, Table, written}
 use Rattle.rules.specs.Table.{number-of, place-of, read, refused, says}
 use Rattle.rules.specs.Links.{weight}
 use Rattle.rules.specs.Pairs.{differing, too-different}
 use Rattle.rules.specs.Costs.{cost}
-use Rattle.rules.specs.NextHops.{next-hops}
-use Rattle.rules.specs.Entries.{interfaces}
+use Rattle.rules.specs.NextHops.{chosen, next-hops, size}
+use Rattle.rules.specs.Entries.{code, entry, interfaces}
 use Rattle.rules.specs.Names.{empty-part, part-bytes}
 use Rattle.rules.specs.Listing.{listing}
-use Rattle.rules.specs.Questions.{Answer, Refusal, costs-after, entry-answer, fill-answer, interfaces-after, interfaces-answer, name-answer, name-for, name-part, pair-answer, path-answer, read-answer, sets-after, trace-after, trip-of, two-names-answer, two-names-part}
+use Rattle.rules.specs.Questions.{Answer, Refusal, chosen-answer, costs-after, ending, entry-answer, fill-answer, interfaces-after, interfaces-answer, link-answer, name-answer, name-for, name-part, no-more, pair-answer, path-answer, read-answer, sets-after, trace-after, trip-of, two-names-answer, two-names-part}
 
 -- ---- acceptance (proofs/Acceptance)
 
-abbrev pub accepts : List ℕ → Type 0
-accepts bytes = number-of (read bytes) ≡ 0
+abbrev pub IsAccepted : List ℕ → Type 0
+IsAccepted bytes = number-of (read bytes) ≡ 0
 
 -- the bytes are accepted and say t
 abbrev pub Accepted : List ℕ → Table → Type 0
-Accepted bytes t = accepts bytes × (says bytes ≡ t)
+Accepted bytes t = IsAccepted bytes × (says bytes ≡ t)
 
--- Tables are accepted exactly by the layout: with the contents that obey its rules and whose records in order the bytes are.
+-- Tables are accepted exactly by the layout: bytes are accepted and say t exactly if t obeys the rules and the bytes are t as written.
 abbrev pub AcceptedByLayout : Type 0
 AcceptedByLayout = (bytes : List ℕ) (t : Table) → Bytes bytes → Accepted bytes t ↔ (Obeys t × (bytes ≡ written t))
 
@@ -87,7 +88,7 @@ OneTableFirst table a = number-of (read table) ≢ 0 → a .refusal ≡ of-table
 abbrev pub TwoTablesFirst : {A : Type 0} → List ℕ → List ℕ → Answer A → Type 0
 TwoTablesFirst old new a =
     (number-of (read old) ≢ 0 → a .refusal ≡ of-table 0 old)
-    × (accepts old → number-of (read new) ≢ 0 → a .refusal ≡ of-table 1 new)
+    × (IsAccepted old → number-of (read new) ≢ 0 → a .refusal ≡ of-table 1 new)
 
 pub record TablesFirst : Type 0 where
   pub of-read : (table : List ℕ) → OneTableFirst table (read-answer table)
@@ -135,8 +136,8 @@ pub record OutputsHold : Type 0 where
 
 -- two accepted tables with the same routers, differing in one link at most
 pub record AcceptedTogether (old new : List ℕ) : Type 0 where
-  pub old-accepted : accepts old
-  pub new-accepted : accepts new
+  pub old-accepted : IsAccepted old
+  pub new-accepted : IsAccepted new
   pub same-routers : says old .routers ≡ says new .routers
   pub one-link : differing (says old) (says new) ≤ 1
 
@@ -149,35 +150,59 @@ pub record PathAsked (old new : List ℕ) (s d : ℕ) (views trace : List ℕ) :
   pub views-good : All (λ v. v ≤ 1) (take (says new .routers - 1) views)
   pub room : says new .routers ≤ length trace
 
--- each question is answered exactly where none of its refusals is listed
+-- each question is answered exactly where none of its listed refusals applies; else the first of its list that does decides, by definition
 pub record AnsweredExactly : Type 0 where
-  pub of-read : (table : List ℕ) → Answered (read-answer table) ↔ accepts table
+  pub of-read : (table : List ℕ) → Answered (read-answer table) ↔ IsAccepted table
   pub of-pair : (old new : List ℕ) → Answered (pair-answer old new) ↔ AcceptedTogether old new
   pub of-fill : (table : List ℕ) (d : ℕ) (costs sets : List ℕ)
       → Answered (fill-answer table d costs sets)
-      ↔ (accepts table × (d < says table .routers) × (says table .routers ≤ length costs) × (says table .routers ≤ length sets))
+      ↔ (IsAccepted table × (d < says table .routers) × (says table .routers ≤ length costs) × (says table .routers ≤ length sets))
   pub of-entry : (table : List ℕ) (i j d : ℕ)
       → Answered (entry-answer table i j d)
-      ↔ (accepts table × (i < says table .routers) × (d < says table .routers) × ((j ≡ 255) ⊎ (j < says table .routers)) × (j ≢ i))
+      ↔ (IsAccepted table × (i < says table .routers) × (d < says table .routers) × ((j ≡ 255) ⊎ (j < says table .routers)) × (j ≢ i))
   pub of-interfaces : (table : List ℕ) (i : ℕ) (out : List ℕ)
       → Answered (interfaces-answer table i out)
-      ↔ (accepts table × (i < says table .routers) × ((says table .routers + 1) * says table .routers ≤ length out))
+      ↔ (IsAccepted table × (i < says table .routers) × ((says table .routers + 1) * says table .routers ≤ length out))
   pub of-path : (old new : List ℕ) (s d : ℕ) (views trace : List ℕ)
       → Answered (path-answer old new s d views trace) ↔ PathAsked old new s d views trace
-  pub of-name : (table : List ℕ) (i : ℕ) → Answered (name-answer table i) ↔ (accepts table × (i < says table .routers))
+  pub of-name : (table : List ℕ) (i : ℕ) → Answered (name-answer table i) ↔ (IsAccepted table × (i < says table .routers))
   pub of-two-names : (old new : List ℕ) (i : ℕ)
       → Answered (two-names-answer old new i)
-      ↔ (accepts old × accepts new × (i < says old .routers) × (i < says new .routers))
+      ↔ (IsAccepted old × IsAccepted new × (i < says old .routers) × (i < says new .routers))
+
+-- ---- what is answered (proofs/Values)
+
+pub record ValuesGiven : Type 0 where
+  pub of-read : (table : List ℕ)
+      → Answered (read-answer table) → read-answer table .values ≡ record { routers = says table .routers; links = length (says table .links) }
+  pub of-pair : (old new : List ℕ)
+      → Answered (pair-answer old new)
+      → pair-answer old new .values ≡ record { routers = says new .routers; differ = differing (says old) (says new) }
+  pub of-fill : (table : List ℕ) (d : ℕ) (costs sets : List ℕ)
+      → Answered (fill-answer table d costs sets) → fill-answer table d costs sets .values ≡ says table .routers
+  pub of-chosen : (set : ℕ) → chosen-answer set ≡ record { hop = chosen set; size = size set }
+  pub of-entry : (table : List ℕ) (i j d : ℕ)
+      → Answered (entry-answer table i j d) → entry-answer table i j d .values ≡ code (entry (says table) i j d)
+  pub of-interfaces : (table : List ℕ) (i : ℕ) (out : List ℕ)
+      → Answered (interfaces-answer table i out) → interfaces-answer table i out .values ≡ length (interfaces (says table) i)
+  pub of-path : (old new : List ℕ) (s d : ℕ) (views trace : List ℕ)
+      → Answered (path-answer old new s d views trace) → path-answer old new s d views trace .values ≡ ending (trip-of old new s d views)
+  -- the links in order, then "no more" for ever
+  pub of-link : (table : List ℕ) (k : ℕ)
+      → k < length (says table .links) → link-answer table k ≡ record { more = 1; link = getD (says table .links) k (no-more .link) }
+  pub of-no-more : (table : List ℕ) (k : ℕ) → length (says table .links) ≤ k → link-answer table k ≡ no-more
 
 -- ---- number 8 (proofs/OneChange, proofs/Refusals)
 
--- At most one link differs exactly if any two pairs of routers whose weights differ are the ends of one link.
+-- a, b and i, k are the same two routers, either way round
 abbrev pub SameEnds : ℕ → ℕ → ℕ → ℕ → Type 0
 SameEnds a b i k = ((a ≡ i) × (b ≡ k)) ⊎ ((a ≡ k) × (b ≡ i))
 
+-- any two pairs of routers whose weights differ are the same two routers
 abbrev pub OneChange : (ℕ → ℕ → ℕ) → (ℕ → ℕ → ℕ) → Type 0
 OneChange w w′ = (i k a b : ℕ) → w i k ≢ w′ i k → w a b ≢ w′ a b → SameEnds a b i k
 
+-- at most one link differs exactly if the weights differ between two routers only
 abbrev pub DiffersExactly : Type 0
 DiffersExactly = (old new : Table) → Obeys old → Obeys new → (differing old new ≤ 1) ↔ OneChange (weight old) (weight new)
 
@@ -191,7 +216,7 @@ NamesNeverCount =
 -- ---- lengths (proofs/Lengths)
 
 pub record Lengths (bytes : List ℕ) : Type 0 where
-  pub longest : accepts bytes → length bytes ≤ 3079
+  pub longest : IsAccepted bytes → length bytes ≤ 3079
   pub place-near : place-of (read bytes) ≤ 3079
   -- the first 4,096 bytes of a longer input are refused with the same number and place
   pub same-reading : read (take 4096 bytes) ≡ read bytes

@@ -1,4 +1,5 @@
--- What demand 2 says, as statements: costs, sets and entries are those of the rules. Each is proved in the file of `proofs/` that its heading names.
+-- What demand 2 says, as statements: costs and sets are those of the rules, and entries forward to members. (The four lines of an entry are the
+-- definition `Entries.entry-by`; of paths `Demand3` speaks, of acceptance `Demand1`.) Each is proved in the file of `proofs/` that its heading names.
 use mathlib.Core.Path.{_≡_}
 use mathlib.Core.Logic.{_⊎_, _↔_}
 use mathlib.Core.Bool.{true}
@@ -27,6 +28,8 @@ RealCostsAreSmall = (t : Table) → Obeys t → (i d : ℕ) → cost t i d < no-
 -- weights hold both ways, and so do costs
 abbrev pub CostsHoldBothWays : Type 0
 CostsHoldBothWays = (t : Table) → Obeys t → (i d : ℕ) → cost t i d ≡ cost t d i
+
+-- ---- for any search that finds costs; the document does not speak of it (proofs/LeastCost)
 
 -- A certificate up to a bound B: f is 0 at d and nowhere above 4294967295, a value below that is the cost of some route, and over each link i-k with
 -- f k < B, f i ≤ w i k + f k. Wherever f ≤ B it is then the cost. A search that runs to its end takes B above 4294967295; one that stops early takes

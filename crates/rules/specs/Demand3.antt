@@ -14,7 +14,7 @@ use Rattle.rules.specs.Costs.{cost, no-cost}
 use Rattle.rules.specs.NextHops.{has, next-hops}
 use Rattle.rules.specs.Entries.{deliver, discard, entry, entry-by, forward, no-route, starts-here}
 use Rattle.rules.specs.Paths.{Choice, Outcome, Site, Trip, View, by, crossed, delivered, discarded, ended, entry-at, journey, listed, lost, new-view, path, site-of, unrouted}
-use Rattle.rules.specs.Questions.{ending, path-answer, trip-of}
+use Rattle.rules.specs.Questions.{path-answer, trip-of}
 use Rattle.rules.specs.Demand1.{Answered, AcceptedTogether}
 
 -- ---- following as a relation: what arriving and leaving give, however many hops it takes
@@ -45,10 +45,10 @@ pub record Permitted (old new : Table) (d : ℕ) (site : Site) : Type 0 where
   pub knows : (v : View) (i : ℕ) → i ≢ d → site .rules v .has-route i ≡ (cost (by v old new) i d <? no-cost)
   pub member : (v : View) (i j : ℕ) → i ≢ d → cost (by v old new) i d < no-cost
       → has (next-hops (by v old new) i d) (site .rules v .hop i j) ≡ true
-  pub drops : (v : View) (i j : ℕ) → has (next-hops (by v old new) i d) j ≡ true → site .rules v .discards i j ≡ true
+  pub discards-pipo : (v : View) (i j : ℕ) → has (next-hops (by v old new) i d) j ≡ true → site .rules v .discards i j ≡ true
 
--- With all views new: rules that drop neither what starts here nor what comes from a router whose set has this one, and links that carry where
--- the new table has one.
+-- With all views new: rules that discard neither what starts here nor what comes from a router whose set has this one, and links that carry
+-- where the new table has one.
 pub record Willing (new : Table) (d : ℕ) (site : Site) : Type 0 where
   pub starts-on : (i : ℕ) → i ≢ d → site .rules new-view .discards i starts-here ≡ false
   pub goes-on : (i j : ℕ) → i ≢ d → has (next-hops new j d) i ≡ true → site .rules new-view .discards i j ≡ false
@@ -56,11 +56,11 @@ pub record Willing (new : Table) (d : ℕ) (site : Site) : Type 0 where
 
 -- ---- what is promised
 
--- each router of the trace and the next
-abbrev pub Hops : (ℕ → ℕ → Type 0) → List ℕ → Type 0
-Hops P [] = Unit {0}
-Hops P (i ∷ []) = Unit {0}
-Hops P (i ∷ k ∷ ks) = P i k × Hops P (k ∷ ks)
+-- P holds of each router of the trace and the next
+abbrev pub EachHop : (ℕ → ℕ → Type 0) → List ℕ → Type 0
+EachHop P [] = Unit {0}
+EachHop P (i ∷ []) = Unit {0}
+EachHop P (i ∷ k ∷ ks) = P i k × EachHop P (k ∷ ks)
 
 -- the total weight of the links crossed
 unfoldable pub total : (ℕ → ℕ → ℕ) → List ℕ → ℕ
@@ -78,10 +78,10 @@ deciders lost hops = suc hops
 abbrev pub decisions : Trip → ℕ
 decisions trip = deciders (trip .outcome) (trip .hops)
 
+-- no router twice, and all that goes with it
 pub record Loopless (routers s : ℕ) (site : Site) (choice : Choice) (trip : Trip) : Type 0 where
   -- the answer is what arriving and leaving give: it never ends because the hops ran out
   pub by-rules : Follows site choice 0 s starts-here trip
-  -- no router twice
   pub once : Distinct (trip .trace)
   -- hops + 1 routers, from the source to where the packet ended (255 stands for a place behind the trace)
   pub counted : length (trip .trace) ≡ suc (trip .hops)
@@ -90,7 +90,7 @@ pub record Loopless (routers s : ℕ) (site : Site) (choice : Choice) (trip : Tr
   pub all-routers : All (λ i. i < routers) (trip .trace)
   -- N − 1 hops at most, over links that carry
   pub few : trip .hops < routers
-  pub over-links : Hops (λ i k. site .carries i k ≡ true) (trip .trace)
+  pub over-links : EachHop (λ i k. site .carries i k ≡ true) (trip .trace)
   -- N − 1 views are enough
   pub enough : decisions trip ≤ routers - 1
 
@@ -98,7 +98,7 @@ pub record Loopless (routers s : ℕ) (site : Site) (choice : Choice) (trip : Tr
 abbrev pub AllNew : Choice → Trip → Type 0
 AllNew choice trip = (n : ℕ) → n < decisions trip → choice (getD (trip .trace) n 255) n ≡ new-view
 
--- then nothing is discarded or lost, a finite cost arrives at that cost, and no route is told at the source
+-- then nothing is discarded or lost; where a route exists the packet arrives at least cost; where none does the answer is no route, at the source
 pub record AtLeastCost (new : Table) (s d : ℕ) (trip : Trip) : Type 0 where
   pub not-discarded : trip .outcome ≢ discarded
   pub not-lost : trip .outcome ≢ lost
@@ -132,7 +132,7 @@ pub record Demand3OfPath (old new : Table) (s d : ℕ) (choice : Choice) : Type 
   pub general : Demand3 new s d (site-of old new d) choice
   -- every router gives the entry of the view that it uses, and every link crossed is in the new table
   pub by-entries : (v : View) (i j : ℕ) → entry-by (site-of old new d .rules v) i j d ≡ entry (by v old new) i j d
-  pub over-new-links : Hops (λ i k. 0 < weight new i k) (path old new choice s d .trace)
+  pub over-new-links : EachHop (λ i k. 0 < weight new i k) (path old new choice s d .trace)
   pub all-new : AllNew choice (path old new choice s d) → AtLeastCost new s d (path old new choice s d)
 
 -- ---- for two accepted byte strings, and for the path question (proofs/Answered)
@@ -143,10 +143,9 @@ Demand3ForAccepted =
     (old new : List ℕ) (s d : ℕ) (choice : Choice)
     → AcceptedTogether old new → s < says new .routers → d < says new .routers → Demand3OfPath (says old) (says new) s d choice
 
--- the path question that is not refused: its answer is this path's, and every router that decides finds its byte in the list
+-- the path question that is not refused, whose answer is this path's (`ValuesGiven`): every router that decides finds its byte in the list
 pub record Demand3Answered (old new : List ℕ) (s d : ℕ) (views trace : List ℕ) : Type 0 where
   pub demand3 : Demand3OfPath (says old) (says new) s d (listed views)
-  pub answered : path-answer old new s d views trace .values ≡ ending (trip-of old new s d views)
   pub bytes-found : decisions (trip-of old new s d views) ≤ length views
 
 abbrev pub Demand3ForQuestions : Type 0

@@ -11,12 +11,13 @@ pub data Entry : Type 0 where
   deliver discard no-route : Entry
   forward : ℕ → Entry
 
--- the previous hop of a packet that starts here: no router has this number, and so no set
+-- the previous hop of a packet that starts here: no router has this number, so it is in no next-hop set
 abbrev pub starts-here : ℕ
 starts-here = 255
 
 -- What the entries of one view for one destination go by: whether router i has a route, whether it discards a packet that comes from router j,
--- and the hop that it forwards such a packet to.
+-- and the hop that it forwards such a packet to. They are a parameter because demand 3 is proved for any that discard at least what PIPO does;
+-- document 01's follow below.
 pub record Rules : Type 0 where
   pub has-route : ℕ → Bool
   pub discards : ℕ → ℕ → Bool

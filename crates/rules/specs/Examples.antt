@@ -65,9 +65,9 @@ reply (follows old new s d views) =
     pick (a .refusal .number =? 0) (ends (a .values .outcome) (a .values .router) (a .values .hops) (trace-after old new s d views lent))
     (refuses (a .refusal .number) (a .refusal .place))
 
-infix 68 _says_
-abbrev _says_ : Question → Reply → Question × Reply
-q says r = (q, r)
+infix 68 _gets_
+abbrev _gets_ : Question → Reply → Question × Reply
+q gets r = (q, r)
 
 -- the bytes of a view list
 abbrev o : ℕ
@@ -76,30 +76,30 @@ o = 0
 abbrev n : ℕ
 n = 1
 
--- In the order of the document; P11 stands for each of its four lists. 128 delivered, 129 discarded, 130 no route, 132 lost; later bytes of the
+-- In the order of the document; P11 stands four times, once for each list of two bytes. 128 delivered, 129 discarded, 130 no route, 132 lost; later bytes of the
 -- trace stay.
 abbrev pub cases : List (Question × Reply)
 cases =
     -- P1 to P5
-    reads [] says refuses 1 0
-    ∷ reads (0x01 ∷ 0x00 ∷ 0x01 ∷ 0x01 ∷ 0x7F ∷ 0x00 ∷ 0x00 ∷ []) says accepts 1 0
-    ∷ reads (0x01 ∷ 0x00 ∷ 0x01 ∷ 0x40 ∷ 0x7F ∷ 0x00 ∷ 0x00 ∷ []) says accepts 64 0
-    ∷ reads (0x01 ∷ 0x00 ∷ 0x01 ∷ 0x41 ∷ 0x7F ∷ 0x00 ∷ 0x00 ∷ []) says refuses 4 0
-    ∷ reads (0x01 ∷ 0x00 ∷ 0x01 ∷ 0x02 ∷ 0x04 ∷ 0x00 ∷ 0x04 ∷ 0x00 ∷ 0x01 ∷ 0x00 ∷ 0x00 ∷ 0x7F ∷ 0x00 ∷ 0x00 ∷ []) says refuses 4 4
+    reads [] gets refuses 1 0
+    ∷ reads (0x01 ∷ 0x00 ∷ 0x01 ∷ 0x01 ∷ 0x7F ∷ 0x00 ∷ 0x00 ∷ []) gets accepts 1 0
+    ∷ reads (0x01 ∷ 0x00 ∷ 0x01 ∷ 0x40 ∷ 0x7F ∷ 0x00 ∷ 0x00 ∷ []) gets accepts 64 0
+    ∷ reads (0x01 ∷ 0x00 ∷ 0x01 ∷ 0x41 ∷ 0x7F ∷ 0x00 ∷ 0x00 ∷ []) gets refuses 4 0
+    ∷ reads (0x01 ∷ 0x00 ∷ 0x01 ∷ 0x02 ∷ 0x04 ∷ 0x00 ∷ 0x04 ∷ 0x00 ∷ 0x01 ∷ 0x00 ∷ 0x00 ∷ 0x7F ∷ 0x00 ∷ 0x00 ∷ []) gets refuses 4 4
     -- P6 to P8
-    ∷ follows triangle-old triangle-new 1 2 (n ∷ o ∷ []) says ends 129 0 1 (1 ∷ 0 ∷ replicate 6 0xEE)
-    ∷ follows triangle-old triangle-new 1 2 (n ∷ n ∷ []) says ends 128 2 2 (1 ∷ 0 ∷ 2 ∷ replicate 5 0xEE)
-    ∷ follows triangle-old triangle-new 0 2 (o ∷ o ∷ []) says ends 132 1 1 (0 ∷ 1 ∷ replicate 6 0xEE)
+    ∷ follows triangle-old triangle-new 1 2 (n ∷ o ∷ []) gets ends 129 0 1 (1 ∷ 0 ∷ replicate 6 0xEE)
+    ∷ follows triangle-old triangle-new 1 2 (n ∷ n ∷ []) gets ends 128 2 2 (1 ∷ 0 ∷ 2 ∷ replicate 5 0xEE)
+    ∷ follows triangle-old triangle-new 0 2 (o ∷ o ∷ []) gets ends 132 1 1 (0 ∷ 1 ∷ replicate 6 0xEE)
     -- P9, P10
-    ∷ follows ring-old ring-new 0 6 (o ∷ o ∷ o ∷ n ∷ n ∷ n ∷ []) says ends 129 3 3 (0 ∷ 1 ∷ 4 ∷ 3 ∷ replicate 4 0xEE)
-    ∷ follows ring-old ring-new 3 6 (n ∷ n ∷ n ∷ n ∷ n ∷ n ∷ []) says ends 128 6 4 (3 ∷ 2 ∷ 5 ∷ 0 ∷ 6 ∷ replicate 3 0xEE)
+    ∷ follows ring-old ring-new 0 6 (o ∷ o ∷ o ∷ n ∷ n ∷ n ∷ []) gets ends 129 3 3 (0 ∷ 1 ∷ 4 ∷ 3 ∷ replicate 4 0xEE)
+    ∷ follows ring-old ring-new 3 6 (n ∷ n ∷ n ∷ n ∷ n ∷ n ∷ []) gets ends 128 6 4 (3 ∷ 2 ∷ 5 ∷ 0 ∷ 6 ∷ replicate 3 0xEE)
     -- P11
-    ∷ follows triangle-old triangle-new 2 2 (o ∷ o ∷ []) says ends 128 2 0 (2 ∷ replicate 7 0xEE)
-    ∷ follows triangle-old triangle-new 2 2 (o ∷ n ∷ []) says ends 128 2 0 (2 ∷ replicate 7 0xEE)
-    ∷ follows triangle-old triangle-new 2 2 (n ∷ o ∷ []) says ends 128 2 0 (2 ∷ replicate 7 0xEE)
-    ∷ follows triangle-old triangle-new 2 2 (n ∷ n ∷ []) says ends 128 2 0 (2 ∷ replicate 7 0xEE)
+    ∷ follows triangle-old triangle-new 2 2 (o ∷ o ∷ []) gets ends 128 2 0 (2 ∷ replicate 7 0xEE)
+    ∷ follows triangle-old triangle-new 2 2 (o ∷ n ∷ []) gets ends 128 2 0 (2 ∷ replicate 7 0xEE)
+    ∷ follows triangle-old triangle-new 2 2 (n ∷ o ∷ []) gets ends 128 2 0 (2 ∷ replicate 7 0xEE)
+    ∷ follows triangle-old triangle-new 2 2 (n ∷ n ∷ []) gets ends 128 2 0 (2 ∷ replicate 7 0xEE)
     -- P12
-    ∷ follows pair-linked pair-apart 0 1 (n ∷ []) says ends 130 0 0 (0 ∷ replicate 7 0xEE)
+    ∷ follows pair-linked pair-apart 0 1 (n ∷ []) gets ends 130 0 0 (0 ∷ replicate 7 0xEE)
     ∷ []
 
 abbrev pub BenchExamples : Type 0

@@ -27,12 +27,14 @@ pub record Table : Type 0 where
 
 -- ---- the rules
 
+-- a name in a table of n routers: its router below n, 1 to 16 bytes, each 0x21 to 0x7E
 pub record NameFits (n : ℕ) (m : Name) : Type 0 where
   pub router-below : m .router < n
   pub some : 1 ≤ length (m .bytes)
   pub short : length (m .bytes) ≤ 16
   pub plain : All (λ c. (0x21 ≤ c) × (c ≤ 0x7E)) (m .bytes)
 
+-- a link in a table of n routers: a < b < n, weight 1 to 65535
 pub record LinkFits (n : ℕ) (l : Link) : Type 0 where
   pub ends-rise : l .a < l .b
   pub end-below : l .b < n
@@ -40,21 +42,22 @@ pub record LinkFits (n : ℕ) (l : Link) : Type 0 where
   pub weight-fits : l .weight ≤ 65535
 
 -- the pair (a, b) of a link as one number of two bytes, which rises as the pair does
-abbrev pub pair : Link → ℕ
-pair l = l .a * 256 + l .b
+abbrev pub pair-number : Link → ℕ
+pair-number l = l .a * 256 + l .b
 
 -- names follow each other from this place on, each behind three bytes of header and one of router
 abbrev pub Placed : ℕ → List Name → Type 0
 Placed at [] = Unit {0}
 Placed at (m ∷ ms) = (m .place ≡ at + 4) × Placed (at + 4 + length (m .bytes)) ms
 
+-- a table obeys the layout
 pub record Obeys (t : Table) : Type 0 where
   pub some-routers : 1 ≤ t .routers
   pub few-routers : t .routers ≤ 64
   pub names-fit : All (NameFits (t .routers)) (t .names)
   pub names-rise : Rising (map (λ m. m .router) (t .names))
   pub links-fit : All (LinkFits (t .routers)) (t .links)
-  pub links-rise : Rising (map pair (t .links))
+  pub links-rise : Rising (map pair-number (t .links))
   pub few-links : length (t .links) ≤ 256
   -- the places are those of the bytes below, where the names begin at place 4
   pub names-placed : Placed 4 (t .names)

@@ -32,7 +32,7 @@ listed views i n = pick (byte views n =? 1) new-view old-view
 pub data Outcome : Type 0 where
   delivered discarded unrouted lost : Outcome
 
--- the code of the entry that ended the packet; lost is 132, since 131 is the own row of an interface table
+-- the code of the entry that ended the packet; lost is 132, since 131 marks the router's own row in an interface table
 abbrev pub outcome-code : Outcome → ℕ
 outcome-code delivered = 128
 outcome-code discarded = 129
@@ -56,7 +56,8 @@ crossed i onward = record { outcome = onward .outcome; router = onward .router; 
 
 -- ---- arriving and leaving
 
--- what a packet for d meets: the rules of the two views, and the links that carry packets
+-- What a packet for d meets: the rules of the two views, and the links that carry packets. They are parameters because demand 3 is proved for any
+-- that are permitted; document 01's follow below.
 pub record Site : Type 0 where
   pub destination : ℕ
   pub rules : View → Rules
@@ -77,8 +78,8 @@ arrive i out (forward k) = out k
 abbrev pub entry-at : Site → Choice → ℕ → ℕ → ℕ → Entry
 entry-at site choice n i j = entry-by (site .rules (choice i n)) i j (site .destination)
 
--- Arriving and leaving take turns until the packet ends. `left` bounds the hops: with none left nothing is crossed, and the theorems show that
--- this never happens.
+-- Arriving and leaving take turns until the packet ends. `left` bounds the hops: with none left a packet that is forwarded counts as lost, and for
+-- two tables that go together demand 3 shows that this never happens.
 unfoldable pub follow : Site → Choice → ℕ → ℕ → ℕ → ℕ → Trip
 follow site choice zero n i j = arrive i (λ k. ended lost i) (entry-at site choice n i j)
 follow site choice (suc left) n i j =
@@ -86,7 +87,7 @@ follow site choice (suc left) n i j =
 
 -- the whole way of a packet that starts at s, in a site of N routers: N − 1 hops are enough
 unfoldable pub journey : ℕ → Site → Choice → ℕ → Trip
-journey n site choice s = follow site choice (n - 1) 0 s starts-here
+journey routers site choice s = follow site choice (routers - 1) 0 s starts-here
 
 -- ---- the path of document 01
 

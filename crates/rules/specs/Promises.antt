@@ -1,4 +1,5 @@
--- Two answers that a promise allows are equal: one general law, as a statement. It is proved in proofs/Uniqueness.
+-- Two answers that a promise allows are equal: a general law, and one for an answer with a lent output beside it. They are proved in
+-- proofs/Uniqueness.
 use mathlib.Core.Path.{_≡_}
 
 -- P allows one value only

@@ -28,8 +28,8 @@ abbrev pub refusal : ℕ → Refusal
 refusal number = record { number = number; table = 0; place = 0 }
 
 -- 1 to 7: the table's bytes are refused
-unfoldable pub bad-table : ℕ → List ℕ → Line Refusal
-bad-table which bytes = record { number = number-of (read bytes); table = which; place = place-of (read bytes) } when (0 <? number-of (read bytes))
+unfoldable pub table-refusal : ℕ → List ℕ → Line Refusal
+table-refusal which bytes = record { number = number-of (read bytes); table = which; place = place-of (read bytes) } when (0 <? number-of (read bytes))
 
 -- an answer: its refusal, and all its other numbers
 pub record Answer (A : Type 0) : Type 0 where
@@ -59,18 +59,18 @@ pub record Reading : Type 0 where
 
 unfoldable pub read-answer : List ℕ → Answer Reading
 read-answer table =
-    answer (bad-table 0 table ∷ [])
+    answer (table-refusal 0 table ∷ [])
     (record { routers = 0; links = 0 })
     (record { routers = says table .routers; links = length (says table .links) })
 
 -- N, which is one number for both, and how many links differ
-pub record Pair : Type 0 where
+pub record Pairing : Type 0 where
   pub routers : ℕ
   pub differ : ℕ
 
-unfoldable pub pair-answer : List ℕ → List ℕ → Answer Pair
+unfoldable pub pair-answer : List ℕ → List ℕ → Answer Pairing
 pair-answer old new =
-    answer (bad-table 0 old ∷ bad-table 1 new ∷ refusal 8 when too-different (says old) (says new) ∷ [])
+    answer (table-refusal 0 old ∷ table-refusal 1 new ∷ refusal 8 when too-different (says old) (says new) ∷ [])
     (record { routers = 0; differ = 0 })
     (record { routers = says new .routers; differ = differing (says old) (says new) })
 
@@ -79,7 +79,7 @@ pair-answer old new =
 unfoldable pub fill-answer : List ℕ → ℕ → List ℕ → List ℕ → Answer ℕ
 fill-answer table d costs sets =
     let n = says table .routers in
-    answer (bad-table 0 table ∷ refusal 9 when bad-router (says table) d ∷ refusal 10 when (length costs <? n || length sets <? n) ∷ []) 0 n
+    answer (table-refusal 0 table ∷ refusal 9 when bad-router (says table) d ∷ refusal 10 when (length costs <? n || length sets <? n) ∷ []) 0 n
 
 unfoldable pub costs-after : List ℕ → ℕ → List ℕ → List ℕ → List ℕ
 costs-after table d costs sets =
@@ -107,14 +107,14 @@ bad-previous t i j = (not (j =? starts-here) && bad-router t j) || j =? i
 unfoldable pub entry-answer : List ℕ → ℕ → ℕ → ℕ → Answer ℕ
 entry-answer table i j d =
     let t = says table in
-    answer (bad-table 0 table ∷ refusal 9 when (bad-router t i || bad-router t d || bad-previous t i j) ∷ []) 0 (code (entry t i j d))
+    answer (table-refusal 0 table ∷ refusal 9 when (bad-router t i || bad-router t d || bad-previous t i j) ∷ []) 0 (code (entry t i j d))
 
 -- ---- the full interface table of a router; the answer is the number of bytes written
 
 unfoldable pub interfaces-answer : List ℕ → ℕ → List ℕ → Answer ℕ
 interfaces-answer table i out =
     let n = says table .routers in
-    answer (bad-table 0 table ∷ refusal 9 when bad-router (says table) i ∷ refusal 10 when (length out <? (n + 1) * n) ∷ []) 0 ((n + 1) * n)
+    answer (table-refusal 0 table ∷ refusal 9 when bad-router (says table) i ∷ refusal 10 when (length out <? (n + 1) * n) ∷ []) 0 ((n + 1) * n)
 
 unfoldable pub interfaces-after : List ℕ → ℕ → List ℕ → List ℕ
 interfaces-after table i out = afterwards (interfaces-answer table i out) (interfaces (says table) i) out
@@ -146,8 +146,8 @@ trip-of old new s d views = path (says old) (says new) (listed views) s d
 abbrev pub path-refusals : List ℕ → List ℕ → ℕ → ℕ → List ℕ → List ℕ → List (Line Refusal)
 path-refusals old new s d views trace =
     let t = says new in
-    bad-table 0 old
-    ∷ bad-table 1 new
+    table-refusal 0 old
+    ∷ table-refusal 1 new
     ∷ refusal 8 when too-different (says old) t
     ∷ refusal 9 when (bad-router t s || bad-router t d)
     ∷ refusal 11 when bad-views t views
@@ -167,19 +167,20 @@ abbrev pub name-for : List ℕ → ℕ → Option Name
 name-for table i = name-in (says table .names) i
 
 unfoldable pub name-answer : List ℕ → ℕ → Answer ℕ
-name-answer table i = answer (bad-table 0 table ∷ refusal 9 when bad-router (says table) i ∷ []) 0 (named (name-for table i))
+name-answer table i = answer (table-refusal 0 table ∷ refusal 9 when bad-router (says table) i ∷ []) 0 (named (name-for table i))
 
 -- no name, or a refusal: the empty part at the end of the table
 unfoldable pub name-part : List ℕ → ℕ → Part
 name-part table i = pick (name-answer table i .refusal .number =? 0) (part-or 0 (name-for table i) (empty-part 0 table)) (empty-part 0 table)
 
--- the name in the new table, or else the one in the old
+-- whether there is a name, in the new table or else in the old
 unfoldable pub two-names-answer : List ℕ → List ℕ → ℕ → Answer ℕ
 two-names-answer old new i =
-    answer (bad-table 0 old ∷ bad-table 1 new ∷ refusal 9 when (bad-router (says old) i || bad-router (says new) i) ∷ [])
+    answer (table-refusal 0 old ∷ table-refusal 1 new ∷ refusal 9 when (bad-router (says old) i || bad-router (says new) i) ∷ [])
     0
     (named (or-else (name-for new i) (name-for old i)))
 
+-- the name in the new table, or else the one in the old, or else the empty part at the end of the new table
 unfoldable pub two-names-part : List ℕ → List ℕ → ℕ → Part
 two-names-part old new i =
     pick (two-names-answer old new i .refusal .number =? 0)

@@ -54,7 +54,7 @@ name-fits n router bytes = router <? n && every name-byte bytes
 unfoldable pub link-fits : ℕ → Link → Bool
 link-fits n l = l .a <? n && l .b <? n && l .a <? l .b && 1 ≤? l .weight && l .weight ≤? 65535
 
--- 4: the contents of a record are in range, in a table of n routers
+-- the contents of a record are in range, in a table of n routers; 4 is given where they are not
 unfoldable pub contents-fit : ℕ → ℕ → List ℕ → Bool
 contents-fit n tag contents =
     first routers-fit (byte contents 0) when (tag =? tag-routers)
