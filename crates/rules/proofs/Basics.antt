@@ -1,6 +1,6 @@
 -- What the other files use: choices whose test is known, induction on a measure, counting, and the pigeonhole principle.
 -- Assumes nothing.
-use mathlib.Core.Path.{_≡_, refl, sym, _∙_}
+use mathlib.Core.Path.{_≡_, refl, sym, _∙_, ap}
 use mathlib.Core.Logic.{_≢_}
 use mathlib.Core.Bool.{Bool, true, false, _&&_, _||_, or-true, false≢true}
 use mathlib.Core.List.{List, [], _∷_, _++_, map, map-append}
@@ -190,6 +190,13 @@ module _ {A : Type 0} (f : ℕ → A) where
   pub All-values : (P : A → Type 0) → ((k : ℕ) → P (f k)) → (ks : List ℕ) → All P (map f ks)
   All-values P h [] = tt
   All-values P h (k ∷ ks) = (h k, All-values P h ks)
+
+pub below-at : (n k other : ℕ) → k < n → getD (below n) k other ≡ k
+below-at n k other h = ap (λ l. getD l k other) (sym (map-same (below n))) ∙ value-at (λ z. z) n k other h
+  where
+    map-same : (l : List ℕ) → map (λ z. z) l ≡ l
+    map-same [] = refl
+    map-same (x ∷ xs) = rw (map-same xs)
 
 -- ---- the numbers below n that pass a test
 

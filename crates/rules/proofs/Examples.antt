@@ -28,7 +28,7 @@ use Rattle.rules.specs.Links.{weight-in}
 use Rattle.rules.specs.Pairs.{differing, too-different}
 use Rattle.rules.specs.Costs.{direct, best, cost}
 use Rattle.rules.specs.NextHops.{has, members, set-of, chosen, leads, next-hops}
-use Rattle.rules.specs.Entries.{entry-by, rules-of, entry, row, interfaces}
+use Rattle.rules.specs.Entries.{entry-by, rules-of, entry, cell, row, interfaces}
 use Rattle.rules.specs.Paths.{listed, follow, journey, site-of}
 use Rattle.rules.specs.Questions.{table-refusal, answer, afterwards, read-answer, interfaces-answer, interfaces-after, few-views, bad-views, trip-of, path-answer, trace-after}
 use Rattle.rules.specs.Listing.{digits, joined-by-commas, cost-and-next, line, lines, header, refusal-line, listing-lines, listing}
@@ -39,7 +39,7 @@ unfolding reply read-answer path-answer trace-after few-views bad-views trip-of 
 bench-examples = refl
 
 pub interface-example : InterfaceExample
-unfolding interfaces-after interfaces-answer interfaces row entry table-refusal answer afterwards read judge judge-from step bad-tag known-tag length-allowed contents-fit routers-fit name-fits name-byte link-fits key keep not-above too-many says table-of routers-of those every below weight-in direct best cost has members set-of chosen leads next-hops entry-by rules-of flatten
+unfolding interfaces-after interfaces-answer interfaces row cell entry table-refusal answer afterwards read judge judge-from step bad-tag known-tag length-allowed contents-fit routers-fit name-fits name-byte link-fits key keep not-above too-many says table-of routers-of those every below weight-in direct best cost has members set-of chosen leads next-hops entry-by rules-of flatten
 interface-example = refl
 
 pub listing-examples : ListingExamples

@@ -21,5 +21,6 @@ pub mod Demand3
 pub mod Answered
 pub mod Outputs
 pub mod Values
+pub mod Decimals
 pub mod Uniqueness
 pub mod Examples

@@ -1,21 +1,24 @@
--- A question that is not refused writes its whole answer into a lent output, and nothing behind it.
+-- A question that is not refused writes its whole answer into a lent output, and nothing behind it; an interface table cell by cell.
 -- Assumes nothing.
-use mathlib.Core.Path.{_≡_, _∙_, ap}
-use mathlib.Core.List.{List, [], _∷_, map, flatten}
-use Prim.Native.Nat.{ℕ, suc, _+_, _*_, _≤_}
+use mathlib.Core.Path.{_≡_, refl, _∙_, ap}
+use mathlib.Core.List.{List, [], _∷_, _++_, map, flatten}
+use Prim.Native.Nat.{ℕ, zero, suc, _+_, _*_, _≤_, _<_}
 use native.Mathlib.Nat.{suc-mul}
+use native.Mathlib.Numerals.{add-one}
 use native.Mathlib.Omega.{arith}
-use lib.ListN.{length, take, drop, length-append, length-drop}
-use lib.Seq.{take-at, drop-at}
+use lib.ListN.{length, getD, take, drop, length-append, length-drop, List·getD-append}
+use lib.Seq.{take-at, drop-at, getD-append-add}
+use borrow.Author.Tests.{eq-eqb, ne-eqb}
 use Rattle.rules.specs.Words.{below}
 use Rattle.rules.specs.Layout.{Table}
 use Rattle.rules.specs.Table.{says}
 use Rattle.rules.specs.Costs.{cost}
 use Rattle.rules.specs.NextHops.{next-hops}
-use Rattle.rules.specs.Entries.{starts-here, row, interfaces}
+use Rattle.rules.specs.Entries.{starts-here, cell, row, interfaces}
 use Rattle.rules.specs.Questions.{Answer, afterwards, fill-answer, costs-after, sets-after, interfaces-answer, interfaces-after, trip-of, path-answer, trace-after}
 use Rattle.rules.specs.Demand1.{Holds, OutputsHold}
-use Rattle.rules.proofs.Basics.{length-below, length-values}
+use Rattle.rules.specs.Demand2.{InterfacesCellByCell}
+use Rattle.rules.proofs.Basics.{pick-t, pick-f, length-below, length-values, value-at, below-at}
 use Rattle.rules.proofs.Refusals.{writes}
 use Rattle.rules.proofs.Cases.{answered-exactly}
 use Rattle.rules.proofs.Answered.{demand3-for-questions}
@@ -50,6 +53,37 @@ unfolding interfaces
 length-interfaces t i =
     let e : suc (length (below (t .routers))) ≡ t .routers + 1 = omega (arith, length-below (t .routers)) in
     length-rows t i (starts-here ∷ below (t .routers)) ∙ ap (λ n. n * t .routers) e
+
+-- row r of them, column d
+cell-of : (t : Table) (i : ℕ) (js : List ℕ) (r d : ℕ) → r < length js → d < t .routers
+    → getD (flatten (map (row t i) js)) (r * t .routers + d) 0 ≡ cell t i (getD js r 0) d
+unfolding flatten row
+cell-of t i [] r d h b = absurd (omega arith)
+cell-of t i (j ∷ js) zero d h b =
+    let e : zero * t .routers + d ≡ d = omega arith in
+    ap (λ n. getD (row t i j ++ flatten (map (row t i) js)) n 0) e
+    ∙ List·getD-append (row t i j) (flatten (map (row t i) js)) 0 d (omega (arith, length-row t i j))
+    ∙ value-at (cell t i j) (t .routers) d 0 b
+cell-of t i (j ∷ js) (suc r) d h b =
+    let e : suc r * t .routers + d ≡ length (row t i j) + (r * t .routers + d) = omega (arith, length-row t i j, suc-mul r (t .routers)) in
+    ap (λ n. getD (row t i j ++ flatten (map (row t i) js)) n 0) e
+    ∙ getD-append-add (row t i j) (flatten (map (row t i) js)) (r * t .routers + d) 0
+    ∙ cell-of t i js r d (omega arith) b
+
+pub interfaces-cell-by-cell : InterfacesCellByCell
+unfolding interfaces cell
+interfaces-cell-by-cell t i = record {
+  row-255 = λ d b.
+      let e : d ≡ 0 * t .routers + d = omega arith in
+      ap (λ n. getD (interfaces t i) n 0) e ∙ cell-of t i (starts-here ∷ below (t .routers)) 0 d (omega arith) b;
+  row-of = λ j d h b.
+      let e : (j + 1) * t .routers + d ≡ suc j * t .routers + d = ap (λ n. n * t .routers + d) (add-one j) in
+      ap (λ n. getD (interfaces t i) n 0) e
+      ∙ cell-of t i (starts-here ∷ below (t .routers)) (suc j) d (omega (arith, length-below (t .routers))) b
+      ∙ ap (λ k. cell t i k d) (below-at (t .routers) j 0 h);
+  own-row = λ d. pick-t _ _ _ (eq-eqb i i refl);
+  other-row = λ j d a. pick-f _ _ _ (ne-eqb i j a);
+}
 
 trace-holds : (old new : List ℕ) (s d : ℕ) (views trace : List ℕ) → path-answer old new s d views trace .refusal .number ≡ 0
     → Holds (suc (trip-of old new s d views .hops)) (trip-of old new s d views .trace) trace (trace-after old new s d views trace)

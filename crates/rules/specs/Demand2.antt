@@ -1,16 +1,20 @@
--- What demand 2 says, as statements: costs and sets are those of the rules, and entries forward to members. (The four lines of an entry are the
+-- What demand 2 says, as statements: costs, sets, interface tables and printed numbers are those of the rules, and entries forward to members. (The four lines of an entry are the
 -- definition `Entries.entry-by`; of paths `Demand3` speaks, of acceptance `Demand1`.) Each is proved in the file of `proofs/` that its heading names.
 use mathlib.Core.Path.{_≡_}
-use mathlib.Core.Logic.{_⊎_, _↔_}
+use mathlib.Core.Logic.{_≢_, _⊎_, _↔_}
 use mathlib.Core.Bool.{true}
-use Prim.Native.Nat.{ℕ, _+_, _*_, _^_, _≤_, _<_}
+use mathlib.Core.List.{List, [], _∷_}
+use Prim.Native.Nat.{ℕ, _+_, _-_, _*_, _^_, _≤_, _<_}
+use lib.ListN.{getD}
 use lib.Count.{ones, trailingZeros}
+use Rattle.rules.specs.Words.{All}
 use Rattle.rules.specs.Layout.{Obeys, Table}
 use Rattle.rules.specs.Links.{weight}
 use Rattle.rules.specs.Routes.{Route}
 use Rattle.rules.specs.Costs.{LeastCost, cost, no-cost}
 use Rattle.rules.specs.NextHops.{chosen, has, next-hops, size}
-use Rattle.rules.specs.Entries.{entry, forward}
+use Rattle.rules.specs.Entries.{code, cell, entry, forward, interfaces}
+use Rattle.rules.specs.Listing.{decimal}
 
 -- ---- least cost (proofs/LeastCost)
 
@@ -75,3 +79,31 @@ ChosenByBits = (set : ℕ) → set < 2 ^ 64 → ByBits set
 abbrev pub EntriesForward : Type 0
 EntriesForward =
     (t : Table) → Obeys t → (i j d k : ℕ) → entry t i j d ≡ forward k → (has (next-hops t i d) k ≡ true) × (k < t .routers)
+
+-- ---- interface tables (proofs/Outputs)
+
+-- row 255 first, then previous hops 0 to N − 1, a column for each destination; the whole row of the router itself is 131
+pub record InterfaceCells (t : Table) (i : ℕ) : Type 0 where
+  pub row-255 : (d : ℕ) → d < t .routers → getD (interfaces t i) d 0 ≡ cell t i 255 d
+  pub row-of : (j d : ℕ) → j < t .routers → d < t .routers → getD (interfaces t i) ((j + 1) * t .routers + d) 0 ≡ cell t i j d
+  pub own-row : (d : ℕ) → cell t i i d ≡ 131
+  pub other-row : (j d : ℕ) → i ≢ j → cell t i j d ≡ code (entry t i j d)
+
+abbrev pub InterfacesCellByCell : Type 0
+InterfacesCellByCell = (t : Table) (i : ℕ) → InterfaceCells t i
+
+-- ---- numbers in the listing (proofs/Decimals)
+
+-- the number that decimal digits say, behind those that said v
+unfoldable pub said-by : ℕ → List ℕ → ℕ
+said-by v [] = v
+said-by v (c ∷ cs) = said-by (v * 10 + (c - 48)) cs
+
+-- a printed number is itself in decimal digits, with no needless zero in front
+pub record Printed (x : ℕ) : Type 0 where
+  pub all-digits : All (λ c. (48 ≤ c) × (c ≤ 57)) (decimal x)
+  pub says-it : said-by 0 (decimal x) ≡ x
+  pub no-zero-first : 0 < x → getD (decimal x) 0 48 ≢ 48
+
+abbrev pub NumbersPrinted : Type 0
+NumbersPrinted = (x : ℕ) → x < 10 ^ 20 → Printed x

@@ -52,9 +52,13 @@ code deliver = 128
 code discard = 129
 code no-route = 130
 
--- one row: previous hop j, a column for each destination; the whole row of the router itself is 131
+-- the whole row of the router itself is 131
+unfoldable pub cell : Table → ℕ → ℕ → ℕ → ℕ
+cell t i j d = pick (i =? j) 131 (code (entry t i j d))
+
+-- one row: previous hop j, a column for each destination
 unfoldable pub row : Table → ℕ → ℕ → List ℕ
-row t i j = map (λ d. pick (i =? j) 131 (code (entry t i j d))) (below (t .routers))
+row t i j = map (cell t i j) (below (t .routers))
 
 -- row 255 first, then previous hops 0 to N − 1
 unfoldable pub interfaces : Table → ℕ → List ℕ
