@@ -13,7 +13,7 @@ use Rattle.rules.specs.Words.{those, All}
 use Rattle.rules.specs.Layout.{Name, Link, Table, tag-routers, tag-name, tag-link, tag-end, Bytes, NameFits, LinkFits, Obeys, record-bytes, name-bytes, link-bytes, written}
 use Rattle.rules.specs.Table.{Record, link-of, key, Kept, nothing-kept, keep, record-in, accepted, judge, nothing-behind, read, number-of, records-of, routers-of, table-of, says}
 use Rattle.rules.specs.Demand1.{Accepted, AcceptedByLayout, Writable, ContentsSettle}
-use Rattle.rules.proofs.Basics.{pick-f, All-map}
+use Rattle.rules.proofs.Basics.{pick-f, All-map, All-append}
 use Rattle.rules.proofs.Judging.{size-in, Judges, ends, goes, judged}
 use Rattle.rules.proofs.Records.{
   record-at,
@@ -231,14 +231,10 @@ contents-settle bytes bytes′ t t′ b b′ h h′ = (
 
 -- ---- what is written is bytes
 
-Bytes-together : (xs ys : List ℕ) → Bytes xs → Bytes ys → Bytes (xs ++ ys)
-Bytes-together [] ys p q = q
-Bytes-together (x ∷ xs) ys p q = (p .0, Bytes-together xs ys (p .1) q)
-
 Bytes-of-all : {A : Type 0} (bytes : A → List ℕ) (xs : List A) → All (λ x. Bytes (bytes x)) xs → Bytes (flatten (map bytes xs))
 unfolding flatten
 Bytes-of-all bytes [] h = tt
-Bytes-of-all bytes (x ∷ xs) h = Bytes-together (bytes x) (flatten (map bytes xs)) (h .0) (Bytes-of-all bytes xs (h .1))
+Bytes-of-all bytes (x ∷ xs) h = All-append (λ c. c < 256) (bytes x) (flatten (map bytes xs)) (h .0) (Bytes-of-all bytes xs (h .1))
 
 Bytes-of-record : (tag : ℕ) (contents : List ℕ) → tag < 256 → length contents ≤ 17 → Bytes contents → Bytes (record-bytes tag contents)
 unfolding record-bytes
@@ -257,8 +253,8 @@ Bytes-of-link n few l f =
 pub writable : Writable
 unfolding written
 writable t o =
-    Bytes-together (routers ++ names ++ links) (record-bytes tag-end [])
-    (Bytes-together (routers ++ names) links (Bytes-together routers names of-routers of-names) of-links)
+    All-append (λ c. c < 256) (routers ++ names ++ links) (record-bytes tag-end [])
+    (All-append (λ c. c < 256) (routers ++ names) links (All-append (λ c. c < 256) routers names of-routers of-names) of-links)
     (Bytes-of-record tag-end [] (omega arith) (omega arith) tt)
   where
     routers : List ℕ

@@ -1,4 +1,5 @@
--- What the other files use: choices whose test is known, induction on a measure, counting, and the pigeonhole principle.
+-- What the other files use: tests whose outcome is known, induction on a measure, counting and the pigeonhole principle, and lists: what holds of
+-- every element, a part of a part, the values of a function at 0 to n − 1, the numbers that pass a test.
 -- Assumes nothing.
 use mathlib.Core.Path.{_≡_, refl, sym, _∙_, ap}
 use mathlib.Core.Logic.{_≢_}

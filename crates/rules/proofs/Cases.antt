@@ -1,22 +1,22 @@
--- Each question is answered exactly where none of its refusals is listed, and a refused table is named with its own number and place.
+-- Each question is answered exactly where none of its listed refusals applies, and from 8 upwards the first that does decides.
 -- Assumes nothing.
-use mathlib.Core.Path.{_≡_, refl}
+use mathlib.Core.Path.{_≡_, refl, _∙_}
 use mathlib.Core.Logic.{_≢_, _⊎_, inl, inr, _↔_}
 use mathlib.Core.Bool.{Bool, true, false, _&&_, _||_, not}
 use mathlib.Core.List.{List, [], _∷_}
-use Prim.Native.Nat.{ℕ, _+_, _-_, _*_, _≤_, _<_}
+use Prim.Native.Nat.{ℕ, zero, suc, _+_, _-_, _*_, _≤_, _<_}
 use native.Mathlib.Decide.{ℕ-discrete}
 use native.Mathlib.Omega.{arith}
 use lib.Dec.{eqb, ltb, leb}
-use lib.ListN.{length, take}
+use lib.ListN.{length, getD, take}
 use borrow.Author.Tests.{ltb-true, ltb-false, leb-true, leb-false, eqb-true, eqb-false, le-ltb, le-leb, lt-leb, eq-eqb, ne-eqb, not-false}
-use Rattle.rules.specs.Words.{pick, Line, first_otherwise_, All}
+use Rattle.rules.specs.Words.{pick, Line, _when_, first_otherwise_, All}
 use Rattle.rules.specs.Layout.{Table}
 use Rattle.rules.specs.Table.{read, number-of, says}
 use Rattle.rules.specs.Pairs.{differing, too-different}
 use Rattle.rules.specs.Questions.{Refusal, refusal, table-refusal, answer, bad-previous, read-answer, pair-answer, fill-answer, entry-answer, interfaces-answer, few-views, bad-views, path-answer, name-answer, two-names-answer}
-use Rattle.rules.specs.Demand1.{Answered, IsAccepted, AnsweredExactly}
-use Rattle.rules.proofs.Basics.{neither, every-true, true-every}
+use Rattle.rules.specs.Demand1.{Answered, IsAccepted, AnsweredExactly, AcceptedTogether, NumbersInOrder}
+use Rattle.rules.proofs.Basics.{pick-t, pick-f, neither, every-true, true-every}
 
 -- ---- where nothing is refused no line applies
 
@@ -45,6 +45,27 @@ exactly : {A P : Type 0} (ls : List (Line Refusal)) (zeros values : A) → All R
     → Answered (answer ls zeros values) ↔ P
 unfolding answer
 exactly ls zeros values h out back = (λ e. out (none-applies ls h e), λ p. all-quiet ls (back p))
+
+-- behind lines that do not apply, one that does decides
+abbrev no-line : Line Refusal
+no-line = refusal 0 when false
+
+first-at : (k : ℕ) (ls : List (Line Refusal)) → All Quiet (take k ls) → getD ls k no-line .applies ≡ true
+    → (first ls otherwise refusal 0) ≡ getD ls k no-line .gives
+first-at zero [] h e = refl
+first-at (suc k) [] h e = refl
+first-at zero (l ∷ ls) h e = pick-t _ _ _ e
+first-at (suc k) (l ∷ ls) h e = pick-f _ _ _ (h .0) ∙ first-at k ls (h .1) e
+
+decided : {A : Type 0} (k : ℕ) (ls : List (Line Refusal)) (zeros values : A) → All Quiet (take k ls) → getD ls k no-line .applies ≡ true
+    → answer ls zeros values .refusal ≡ getD ls k no-line .gives
+unfolding answer
+decided k ls zeros values h e = first-at k ls h e
+
+-- a test that does not fail passes
+applies : {P : Type 0} (t : Bool) → (t ≡ false) ↔ P → ¬ P → t ≡ true
+applies true f h = refl
+applies false f h = absurd (h (f .0 refl))
 
 -- ---- the lines
 
@@ -85,6 +106,22 @@ quiet-previous t i j = quiet-or (not (eqb j 255) && leb (t .routers) j) (eqb j i
         last : (b : Bool) → (b && false) ≡ false
         last true = refl
         last false = refl
+
+-- two routers, each below its N; and two outputs with room for N
+quiet-routers : (m n i k : ℕ) → ((leb m i || leb n k) ≡ false) ↔ ((i < m) × (k < n))
+quiet-routers m n i k = quiet-or (leb m i) (leb n k) (quiet-≤ m i) (quiet-≤ n k)
+
+quiet-room : (n a b : ℕ) → ((ltb a n || ltb b n) ≡ false) ↔ ((n ≤ a) × (n ≤ b))
+quiet-room n a b = quiet-or (ltb a n) (ltb b n) (quiet-< a n) (quiet-< b n)
+
+-- router, previous hop and destination of an entry
+quiet-entry : (t : Table) (i j d : ℕ)
+    → ((leb (t .routers) i || leb (t .routers) d || bad-previous t i j) ≡ false)
+    ↔ ((i < t .routers) × (d < t .routers) × ((j ≡ 255) ⊎ (j < t .routers)) × (j ≢ i))
+quiet-entry t i j d =
+    let n = t .routers in
+    let r = quiet-or (leb n i || leb n d) (bad-previous t i j) (quiet-routers n n i d) (quiet-previous t i j) in
+    (λ e. let ((a, b), (c, f)) = r .0 e in (a, b, c, f), λ (a, b, c, f). r .1 ((a, b), (c, f)))
 
 -- two tables that go together
 quiet-pair : (old new : Table) → (too-different old new ≡ false) ↔ ((old .routers ≡ new .routers) × (differing old new ≤ 1))
@@ -129,17 +166,15 @@ answered-exactly = record {
       (λ h. (quiet-table 0 old .1 (h .old-accepted), (quiet-table 1 new .1 (h .new-accepted), (p .1 (h .same-routers, h .one-link), tt))));
   of-fill = λ table d costs sets.
       let n = says table .routers in
-      let r = quiet-or (ltb (length costs) n) (ltb (length sets) n) (quiet-< (length costs) n) (quiet-< (length sets) n) in
+      let r = quiet-room n (length costs) (length sets) in
       exactly _ _ _ (table-refuses 0 table, (λ e. omega arith, (λ e. omega arith, tt)))
       (λ (a, (b, (c, z))). (quiet-table 0 table .0 a, leb-false n d b, r .0 c .0, r .0 c .1))
       (λ (a, b, c, z). (quiet-table 0 table .1 a, (lt-leb n d b, (r .1 (c, z), tt))));
   of-entry = λ table i j d.
-      let t = says table in
-      let n = t .routers in
-      let r = quiet-or (leb n i || leb n d) (bad-previous t i j) (quiet-or (leb n i) (leb n d) (quiet-≤ n i) (quiet-≤ n d)) (quiet-previous t i j) in
+      let r = quiet-entry (says table) i j d in
       exactly _ _ _ (table-refuses 0 table, (λ e. omega arith, tt))
-      (λ (a, (b, z)). let ((c, f), (g, h)) = r .0 b in (quiet-table 0 table .0 a, c, f, g, h))
-      (λ (a, c, f, g, h). (quiet-table 0 table .1 a, (r .1 ((c, f), (g, h)), tt)));
+      (λ (a, (b, z)). let (c, f, g, h) = r .0 b in (quiet-table 0 table .0 a, c, f, g, h))
+      (λ (a, c, f, g, h). (quiet-table 0 table .1 a, (r .1 (c, f, g, h), tt)));
   of-interfaces = λ table i out.
       let n = says table .routers in
       exactly _ _ _ (table-refuses 0 table, (λ e. omega arith, (λ e. omega arith, tt)))
@@ -148,7 +183,7 @@ answered-exactly = record {
   of-path = λ old new s d views trace.
       let n = says new .routers in
       let p = quiet-pair (says old) (says new) in
-      let r = quiet-or (leb n s) (leb n d) (quiet-≤ n s) (quiet-≤ n d) in
+      let r = quiet-routers n n s d in
       let v = quiet-views (says new) views in
       exactly _ _ _ (table-refuses 0 old, (table-refuses 1 new, (λ e. omega arith, (λ e. omega arith, (λ e. omega arith, (λ e. omega arith, tt))))))
       (λ (r₀, (r₁, (r₂, (r₃, (r₄, (r₅, r₆)))))).
@@ -173,10 +208,53 @@ answered-exactly = record {
       (λ (a, (b, z)). (quiet-table 0 table .0 a, leb-false n i b))
       (λ (a, b). (quiet-table 0 table .1 a, (lt-leb n i b, tt)));
   of-two-names = λ old new i.
-      let m = says old .routers in
-      let n = says new .routers in
-      let r = quiet-or (leb m i) (leb n i) (quiet-≤ m i) (quiet-≤ n i) in
+      let r = quiet-routers (says old .routers) (says new .routers) i i in
       exactly _ _ _ (table-refuses 0 old, (table-refuses 1 new, (λ e. omega arith, tt)))
       (λ (a, (b, (c, z))). (quiet-table 0 old .0 a, quiet-table 1 new .0 b, r .0 c .0, r .0 c .1))
       (λ (a, b, c, z). (quiet-table 0 old .1 a, (quiet-table 1 new .1 b, (r .1 (c, z), tt))));
+}
+
+-- ---- from 8 upwards
+
+-- what does not apply before 8 and 9: two tables
+module _ (old new : List ℕ) where
+  two-accepted : {A : Type 0} → IsAccepted old → IsAccepted new → A → Quiet (table-refusal 0 old) × (Quiet (table-refusal 1 new) × A)
+  two-accepted a b more = (quiet-table 0 old .1 a, (quiet-table 1 new .1 b, more))
+
+  together-quiet : AcceptedTogether old new → too-different (says old) (says new) ≡ false
+  together-quiet h = quiet-pair (says old) (says new) .1 (h .same-routers, h .one-link)
+
+  apart : IsAccepted old → IsAccepted new → ¬ AcceptedTogether old new → too-different (says old) (says new) ≡ true
+  apart a b h =
+      applies _ (quiet-pair (says old) (says new)) (λ p. h (record { old-accepted = a; new-accepted = b; same-routers = p .0; one-link = p .1 }))
+
+pub numbers-in-order : NumbersInOrder
+unfolding pair-answer fill-answer entry-answer interfaces-answer path-answer name-answer two-names-answer
+numbers-in-order = record {
+  pair-8 = λ old new a b h. decided 2 _ _ _ (two-accepted old new a b tt) (apart old new a b h);
+  fill-9 = λ table d costs sets a h. decided 1 _ _ _ (quiet-table 0 table .1 a, tt) (applies _ (quiet-≤ (says table .routers) d) h);
+  fill-10 = λ table d costs sets a b h.
+      let n = says table .routers in
+      decided 2 _ _ _ (quiet-table 0 table .1 a, (lt-leb n d b, tt)) (applies _ (quiet-room n (length costs) (length sets)) h);
+  entry-9 = λ table i j d a h. decided 1 _ _ _ (quiet-table 0 table .1 a, tt) (applies _ (quiet-entry (says table) i j d) h);
+  interfaces-9 = λ table i out a h. decided 1 _ _ _ (quiet-table 0 table .1 a, tt) (applies _ (quiet-≤ (says table .routers) i) h);
+  interfaces-10 = λ table i out a b h.
+      let n = says table .routers in
+      decided 2 _ _ _ (quiet-table 0 table .1 a, (lt-leb n i b, tt)) (applies _ (quiet-< (length out) ((n + 1) * n)) h);
+  path-8 = λ old new s d views trace a b h. decided 2 _ _ _ (two-accepted old new a b tt) (apart old new a b h);
+  path-9 = λ old new s d views trace p h.
+      let n = says new .routers in
+      decided 3 _ _ _ (two-accepted old new (p .old-accepted) (p .new-accepted) (together-quiet old new p, tt)) (applies _ (quiet-routers n n s d) h);
+  path-11 = λ old new s d views trace p b c h.
+      let n = says new .routers in
+      decided 4 _ _ _ (two-accepted old new (p .old-accepted) (p .new-accepted) (together-quiet old new p, (quiet-routers n n s d .1 (b, c), tt)))
+      (applies _ (quiet-views (says new) views) h);
+  path-10 = λ old new s d views trace p b c v g h.
+      let n = says new .routers in
+      decided 5 _ _ _
+      (two-accepted old new (p .old-accepted) (p .new-accepted) (together-quiet old new p, (quiet-routers n n s d .1 (b, c), (quiet-views (says new) views .1 (v, g), tt))))
+      (applies _ (quiet-< (length trace) n) h);
+  name-9 = λ table i a h. decided 1 _ _ _ (quiet-table 0 table .1 a, tt) (applies _ (quiet-≤ (says table .routers) i) h);
+  two-names-9 = λ old new i a b h.
+      decided 2 _ _ _ (two-accepted old new a b tt) (applies _ (quiet-routers (says old .routers) (says new .routers) i i) h);
 }

@@ -167,13 +167,17 @@ module _ {old new : Table} {d : ℕ} {site : Site} (𝓣 : Together old new) (�
     trail (loses e f) = stays
     trail (crosses {n} {i} {j} {k} e f r) = goes (sent (choice i n) j i k e) (trail r)
 
+    -- a trail of one router more than `left` hops visit
+    abbrev TooLong : ℕ → ℕ → ℕ → Type 0
+    TooLong left i j = (is : List ℕ) × Trail (W old new) (C old new d) j i is × (length is ≡ suc (suc left))
+
     -- following gives what the rules give, or a trail longer than its bound
-    runs : (left n i j : ℕ) → Follows site choice n i j (follow site choice left n i j) ⊎ ((is : List ℕ) × Trail (W old new) (C old new d) j i is × (length is ≡ suc (suc left)))
+    runs : (left n i j : ℕ) → Follows site choice n i j (follow site choice left n i j) ⊎ TooLong left i j
     unfolding follow
     runs zero n i j = go (entry-at site choice n i j) refl
       where
         go : (e : Entry) → entry-at site choice n i j ≡ e
-            → Follows site choice n i j (arrive i (λ k. ended lost i) e) ⊎ ((is : List ℕ) × Trail (W old new) (C old new d) j i is × (length is ≡ 2))
+            → Follows site choice n i j (arrive i (λ k. ended lost i) e) ⊎ TooLong 0 i j
         go deliver q = inl (delivers q)
         go discard q = inl (discards q)
         go no-route q = inl (has-none q)
@@ -181,18 +185,18 @@ module _ {old new : Table} {d : ℕ} {site : Site} (𝓣 : Together old new) (�
     runs (suc left) n i j = go (entry-at site choice n i j) refl (λ k. runs left (suc n) k i)
       where
         go : (e : Entry) → entry-at site choice n i j ≡ e
-            → ((k : ℕ) → Follows site choice (suc n) k i (follow site choice left (suc n) k i) ⊎ ((is : List ℕ) × Trail (W old new) (C old new d) i k is × (length is ≡ suc (suc left))))
+            → ((k : ℕ) → Follows site choice (suc n) k i (follow site choice left (suc n) k i) ⊎ TooLong left k i)
             → Follows site choice n i j (arrive i (λ k. leave site i k (follow site choice left (suc n) k i)) e)
-            ⊎ ((is : List ℕ) × Trail (W old new) (C old new d) j i is × (length is ≡ suc (suc (suc left))))
+            ⊎ TooLong (suc left) i j
         go deliver q ih = inl (delivers q)
         go discard q ih = inl (discards q)
         go no-route q ih = inl (has-none q)
         go (forward k) q ih = carry (site .carries i k) refl (ih k)
           where
             carry : (c : Bool) → site .carries i k ≡ c
-                → Follows site choice (suc n) k i (follow site choice left (suc n) k i) ⊎ ((is : List ℕ) × Trail (W old new) (C old new d) i k is × (length is ≡ suc (suc left)))
+                → Follows site choice (suc n) k i (follow site choice left (suc n) k i) ⊎ TooLong left k i
                 → Follows site choice n i j (pick c (crossed i (follow site choice left (suc n) k i)) (ended lost i))
-                ⊎ ((is : List ℕ) × Trail (W old new) (C old new d) j i is × (length is ≡ suc (suc (suc left))))
+                ⊎ TooLong (suc left) i j
             carry false f r = inl (loses q f)
             carry true f (inl r) = inl (crosses q f r)
             carry true f (inr (is, t, l)) = inr (i ∷ is, goes (sent (choice i n) j i k q) t, ap suc l)
@@ -202,7 +206,7 @@ module _ {old new : Table} {d : ℕ} {site : Site} (𝓣 : Together old new) (�
     follows j i b = go (runs (new .routers - 1) 0 i j)
       where
         go : {trip : Trip} → Follows site choice 0 i j trip
-            ⊎ ((is : List ℕ) × Trail (W old new) (C old new d) j i is × (length is ≡ suc (suc (new .routers - 1)))) → Follows site choice 0 i j trip
+            ⊎ TooLong (new .routers - 1) i j → Follows site choice 0 i j trip
         go (inl f) = f
         go (inr (is, t, l)) = absurd (omega (arith, trail-short (nets 𝓣) (both 𝓣) (laws 𝓣 d) (one-change 𝓣) t b))
 

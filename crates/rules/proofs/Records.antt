@@ -244,8 +244,8 @@ fine-name kept place contents f =
       record {
         fits = record {
           router-below = ltb-true (byte contents 0) (kept .routers) below;
-          some = rw (length-drop 1 contents) (omega arith);
-          short = rw (length-drop 1 contents) (omega arith);
+          not-empty = rw (length-drop 1 contents) (omega arith);
+          not-long = rw (length-drop 1 contents) (omega arith);
           plain = every-true name-byte (λ c. (0x21 ≤ c) × (c ≤ 0x7E)) plain-byte (drop 1 contents) plain;
         };
         in-turn = tag-order kept tag-name (f .tagged) .not-below;
@@ -277,7 +277,7 @@ fits-link n l e =
     record {
       ends-rise = ltb-true (l .a) (l .b) rise;
       end-below = ltb-true (l .b) n (both (ltb (l .a) n) (ltb (l .b) n) r .1);
-      weighs = leb-true 1 (l .weight) some;
+      weight-above-0 = leb-true 1 (l .weight) some;
       weight-fits = leb-true (l .weight) 65535 light;
     }
 
@@ -288,7 +288,7 @@ link-in n l f =
       lt-ltb (l .a) n (omega arith),
       lt-ltb (l .b) n (f .end-below),
       lt-ltb (l .a) (l .b) (f .ends-rise),
-      le-leb 1 (l .weight) (f .weighs),
+      le-leb 1 (l .weight) (f .weight-above-0),
       le-leb (l .weight) 65535 (f .weight-fits),
     )
 

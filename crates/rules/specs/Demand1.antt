@@ -17,7 +17,7 @@ use Rattle.rules.specs.NextHops.{chosen, next-hops, size}
 use Rattle.rules.specs.Entries.{code, entry, interfaces}
 use Rattle.rules.specs.Names.{empty-part, part-bytes}
 use Rattle.rules.specs.Listing.{listing}
-use Rattle.rules.specs.Questions.{Answer, Refusal, chosen-answer, costs-after, ending, entry-answer, fill-answer, interfaces-after, interfaces-answer, link-answer, name-answer, name-for, name-part, no-more, pair-answer, path-answer, read-answer, sets-after, trace-after, trip-of, two-names-answer, two-names-part}
+use Rattle.rules.specs.Questions.{Answer, Refusal, chosen-answer, costs-after, ending, entry-answer, fill-answer, interfaces-after, interfaces-answer, link-answer, name-answer, name-for, name-part, no-more, pair-answer, path-answer, read-answer, refusal, sets-after, trace-after, trip-of, two-names-answer, two-names-part}
 
 -- ---- acceptance (proofs/Acceptance)
 
@@ -150,7 +150,7 @@ pub record PathAsked (old new : List ℕ) (s d : ℕ) (views trace : List ℕ) :
   pub views-good : All (λ v. v ≤ 1) (take (says new .routers - 1) views)
   pub room : says new .routers ≤ length trace
 
--- each question is answered exactly where none of its listed refusals applies; else the first of its list that does decides, by definition
+-- each question is answered exactly where none of its listed refusals applies
 pub record AnsweredExactly : Type 0 where
   pub of-read : (table : List ℕ) → Answered (read-answer table) ↔ IsAccepted table
   pub of-pair : (old new : List ℕ) → Answered (pair-answer old new) ↔ AcceptedTogether old new
@@ -169,6 +169,40 @@ pub record AnsweredExactly : Type 0 where
   pub of-two-names : (old new : List ℕ) (i : ℕ)
       → Answered (two-names-answer old new i)
       ↔ (IsAccepted old × IsAccepted new × (i < says old .routers) × (i < says new .routers))
+
+-- From 8 upwards, where the tables are accepted, the first of these decides. (1 to 7 come before them: `TablesFirst`.)
+pub record NumbersInOrder : Type 0 where
+  pub pair-8 : (old new : List ℕ) → IsAccepted old → IsAccepted new → ¬ AcceptedTogether old new → pair-answer old new .refusal ≡ refusal 8
+  pub fill-9 : (table : List ℕ) (d : ℕ) (costs sets : List ℕ)
+      → IsAccepted table → ¬ (d < says table .routers) → fill-answer table d costs sets .refusal ≡ refusal 9
+  pub fill-10 : (table : List ℕ) (d : ℕ) (costs sets : List ℕ)
+      → IsAccepted table → d < says table .routers → ¬ ((says table .routers ≤ length costs) × (says table .routers ≤ length sets))
+      → fill-answer table d costs sets .refusal ≡ refusal 10
+  pub entry-9 : (table : List ℕ) (i j d : ℕ)
+      → IsAccepted table
+      → ¬ ((i < says table .routers) × (d < says table .routers) × ((j ≡ 255) ⊎ (j < says table .routers)) × (j ≢ i))
+      → entry-answer table i j d .refusal ≡ refusal 9
+  pub interfaces-9 : (table : List ℕ) (i : ℕ) (out : List ℕ)
+      → IsAccepted table → ¬ (i < says table .routers) → interfaces-answer table i out .refusal ≡ refusal 9
+  pub interfaces-10 : (table : List ℕ) (i : ℕ) (out : List ℕ)
+      → IsAccepted table → i < says table .routers → ¬ ((says table .routers + 1) * says table .routers ≤ length out)
+      → interfaces-answer table i out .refusal ≡ refusal 10
+  pub path-8 : (old new : List ℕ) (s d : ℕ) (views trace : List ℕ)
+      → IsAccepted old → IsAccepted new → ¬ AcceptedTogether old new → path-answer old new s d views trace .refusal ≡ refusal 8
+  pub path-9 : (old new : List ℕ) (s d : ℕ) (views trace : List ℕ)
+      → AcceptedTogether old new → ¬ ((s < says new .routers) × (d < says new .routers))
+      → path-answer old new s d views trace .refusal ≡ refusal 9
+  pub path-11 : (old new : List ℕ) (s d : ℕ) (views trace : List ℕ)
+      → AcceptedTogether old new → s < says new .routers → d < says new .routers
+      → ¬ ((says new .routers - 1 ≤ length views) × All (λ v. v ≤ 1) (take (says new .routers - 1) views))
+      → path-answer old new s d views trace .refusal ≡ refusal 11
+  pub path-10 : (old new : List ℕ) (s d : ℕ) (views trace : List ℕ)
+      → AcceptedTogether old new → s < says new .routers → d < says new .routers
+      → says new .routers - 1 ≤ length views → All (λ v. v ≤ 1) (take (says new .routers - 1) views)
+      → ¬ (says new .routers ≤ length trace) → path-answer old new s d views trace .refusal ≡ refusal 10
+  pub name-9 : (table : List ℕ) (i : ℕ) → IsAccepted table → ¬ (i < says table .routers) → name-answer table i .refusal ≡ refusal 9
+  pub two-names-9 : (old new : List ℕ) (i : ℕ)
+      → IsAccepted old → IsAccepted new → ¬ ((i < says old .routers) × (i < says new .routers)) → two-names-answer old new i .refusal ≡ refusal 9
 
 -- ---- what is answered (proofs/Values)
 

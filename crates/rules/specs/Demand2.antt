@@ -1,5 +1,6 @@
--- What demand 2 says, as statements: costs, sets, interface tables and printed numbers are those of the rules, and entries forward to members. (The four lines of an entry are the
--- definition `Entries.entry-by`; of paths `Demand3` speaks, of acceptance `Demand1`.) Each is proved in the file of `proofs/` that its heading names.
+-- What demand 2 says, as statements: costs, sets, interface tables and printed numbers are those of the rules, and entries forward to members. The
+-- four lines of an entry are the definition `Entries.entry-by`; of paths `Demand3` speaks, of acceptance `Demand1`. Each statement is proved in the
+-- file of `proofs/` that its heading names.
 use mathlib.Core.Path.{_≡_}
 use mathlib.Core.Logic.{_≢_, _⊎_, _↔_}
 use mathlib.Core.Bool.{true}

@@ -30,15 +30,15 @@ pub record Table : Type 0 where
 -- a name in a table of n routers: its router below n, 1 to 16 bytes, each 0x21 to 0x7E
 pub record NameFits (n : ℕ) (m : Name) : Type 0 where
   pub router-below : m .router < n
-  pub some : 1 ≤ length (m .bytes)
-  pub short : length (m .bytes) ≤ 16
+  pub not-empty : 1 ≤ length (m .bytes)
+  pub not-long : length (m .bytes) ≤ 16
   pub plain : All (λ c. (0x21 ≤ c) × (c ≤ 0x7E)) (m .bytes)
 
 -- a link in a table of n routers: a < b < n, weight 1 to 65535
 pub record LinkFits (n : ℕ) (l : Link) : Type 0 where
   pub ends-rise : l .a < l .b
   pub end-below : l .b < n
-  pub weighs : 1 ≤ l .weight
+  pub weight-above-0 : 1 ≤ l .weight
   pub weight-fits : l .weight ≤ 65535
 
 -- the pair (a, b) of a link as one number of two bytes, which rises as the pair does
