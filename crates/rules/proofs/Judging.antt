@@ -75,7 +75,7 @@ steps kept place left =
     })
 
 -- a good record is what the step gives
-step-good : (kept : Kept) (place : ℕ) (left : List ℕ) → Good kept left
+pub step-good : (kept : Kept) (place : ℕ) (left : List ℕ) → Good kept left
     → step kept place left ≡ good (record-in place left) (place + 3 + size-in left)
 unfolding step
 step-good kept place left g =
@@ -102,17 +102,17 @@ pub data Judges : Kept → ℕ → List ℕ → Judged → Type 0 where
       → Judges kept place left (followed-by (record-in place left) j)
 
 -- one turn of judging, by cases
-judge-stops : (most : ℕ) (kept : Kept) (place number : ℕ) (left : List ℕ) → step kept place left ≡ bad number place
-    → judge-from (suc most) kept place left ≡ refused number place
+pub judge-stops : (most : ℕ) (kept : Kept) (place number at : ℕ) (left : List ℕ) → step kept place left ≡ bad number at
+    → judge-from (suc most) kept place left ≡ refused number at
 unfolding judge-from
-judge-stops most kept place number left e = rw (e, judge-from)
+judge-stops most kept place number at left e = rw (e, judge-from)
 
-judge-ends : (most : ℕ) (kept : Kept) (place : ℕ) (left : List ℕ) → Good kept left → byte left 0 ≡ tag-end
+pub judge-ends : (most : ℕ) (kept : Kept) (place : ℕ) (left : List ℕ) → Good kept left → byte left 0 ≡ tag-end
     → judge-from (suc most) kept place left ≡ accepted (record-in place left ∷ []) (place + 3 + size-in left)
 unfolding judge-from
 judge-ends most kept place left g e = rw (step-good kept place left g, eq-eqb (byte left 0) tag-end e, judge-from)
 
-judge-goes : (most : ℕ) (kept : Kept) (place : ℕ) (left : List ℕ) → Good kept left → byte left 0 ≢ tag-end
+pub judge-goes : (most : ℕ) (kept : Kept) (place : ℕ) (left : List ℕ) → Good kept left → byte left 0 ≢ tag-end
     → judge-from (suc most) kept place left
     ≡ followed-by (record-in place left) (judge-from most (keep kept (record-in place left)) (place + 3 + size-in left) (drop (3 + size-in left) left))
 unfolding judge-from
@@ -136,7 +136,7 @@ judges (suc most) kept place left h =
         → (length (drop (3 + size-in left) left) < most
         → Judges (keep kept (record-in place left)) (place + 3 + size-in left) (drop (3 + size-in left) left) rest)
         → Judges kept place left (judge-from (suc most) kept place left)
-    go s q (refuses number a b) d ih = rw (judge-stops most kept place number left q) (stops q a b)
+    go s q (refuses number a b) d ih = rw (judge-stops most kept place number place left q) (stops q a b)
     go s q (gives g) (yes e) ih = rw (judge-ends most kept place left g e) (ends g e)
     go s q (gives g) (no e) ih = rw (judge-goes most kept place left g e) (goes g e (ih (shorter kept left g most h)))
 
@@ -144,7 +144,7 @@ judges (suc most) kept place left h =
 pub judged : {kept : Kept} {place : ℕ} {left : List ℕ} {j : Judged} → Judges kept place left j
     → (most : ℕ) → length left < most → judge-from most kept place left ≡ j
 judged (stops q a b) zero h = absurd (omega arith)
-judged {kept} {place} {left} (stops {number = number} q a b) (suc most) h = judge-stops most kept place number left q
+judged {kept} {place} {left} (stops {number = number} q a b) (suc most) h = judge-stops most kept place number place left q
 judged (ends g e) zero h = absurd (omega arith)
 judged {kept} {place} {left} (ends g e) (suc most) h = judge-ends most kept place left g e
 judged (goes g e r) zero h = absurd (omega arith)

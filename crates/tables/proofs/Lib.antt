@@ -1,0 +1,5 @@
+pub mod Tests
+pub mod Stepping
+pub mod Turns
+pub mod Places
+pub mod Asked

@@ -1,0 +1,50 @@
+-- What judging and the reading question answer, in document 01's numbers.
+use mathlib.Core.Path.{_≡_}
+use mathlib.Core.List.{List, [], _∷_}
+use Prim.Native.Nat.{ℕ}
+use lib.ListN.{length}
+use Rattle.rules.specs.Words.{_<?_, pick}
+use Rattle.rules.specs.Layout.{tag-link}
+use Rattle.rules.specs.Table.{Record, Judged, accepted, refused, read, records-of, table-of, says}
+use Rattle.rules.specs.Questions.{Answer, Reading}
+use Rattle.tables.specs.Answers.{answered, refused-with, IsNumber}
+use Rattle.tables.specs.declared.Step.{Step as StepHere}
+use Rattle.tables.specs.declared.Step.the-variants as step
+use Rattle.tables.specs.declared.Judged.{Judged as JudgedHere}
+use Rattle.tables.specs.declared.Judged.the-variants as judged
+use Rattle.tables.specs.declared.Outline.{Outline}
+use Rattle.tables.specs.declared.Reading.{Reading as ReadingHere}
+use Rattle.tables.specs.declared.Reading.the-variants.{Accepted, Refused}
+
+-- what judging tells of the records up to the end record: N, how many links, and where the table ends
+unfoldable pub judged-of : Judged → JudgedHere
+judged-of (accepted rs end) = judged.Accepted (table-of rs .routers) (length (table-of rs .links)) end
+judged-of (refused number place) = judged.Refused number place
+
+-- the refusal that a step gave
+unfoldable pub refusal-in : StepHere → JudgedHere
+refusal-in (step.Record tag end) = judged.Refused 0 end
+refusal-in (step.Refused number place) = judged.Refused number place
+
+-- where the links start: the place of the first record whose tag is not below a link's
+unfoldable pub links-place : List Record → ℕ
+links-place [] = 0
+links-place (r ∷ rs) = pick (r .tag <? tag-link) (links-place rs) (r .place)
+
+-- the same of a byte string; 0 where it is refused
+unfoldable pub links-start : List ℕ → ℕ
+links-start bytes = links-place (records-of (read bytes))
+
+-- the numbers of each case
+unfoldable pub reading-numbers : ReadingHere → Answer Reading
+reading-numbers (Accepted t) = answered (record { routers = t .routers; links = t .links })
+reading-numbers (Refused number place) = refused-with (record { routers = 0; links = 0 }) number 0 place
+
+-- the outline of a table: N, how many links, and where they start
+abbrev pub outline-of : List ℕ → Outline
+outline-of bytes = record { routers = says bytes .routers; links = length (says bytes .links); start = links-start bytes }
+
+-- the outline is the table's own; a refusal has a number
+abbrev pub Outlined : List ℕ → ReadingHere → Type 0
+Outlined bytes (Accepted t) = t ≡ outline-of bytes
+Outlined bytes (Refused number place) = IsNumber number

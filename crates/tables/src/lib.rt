@@ -1,0 +1,335 @@
+// Reading tables: the reading step, judging up to the end record, the reading question.
+ghost use mathlib.Core.Path.{_≡_};
+ghost use mathlib.Core.Bool.{true};
+ghost use Prim.Native.Nat.{ℕ, _+_, _*_, _<_, _≤_};
+ghost use lib.ListN.{length, drop};
+ghost use Rattle.rules.specs.Words.{every};
+ghost use Rattle.rules.specs.Table.{byte, bad-tag, length-allowed, name-byte, name-fits, link-fits, link-of, contents-fit, not-above, key, keep, step};
+ghost use Rattle.rules.specs.Table as Table;
+ghost use Rattle.rules.specs.Questions.{read-answer};
+ghost use Rattle.tables.specs.Steps.{kept-of, step-of, contents-number, record-with};
+ghost use Rattle.tables.specs.Readings.{judged-of, refusal-in, reading-numbers, Outlined};
+
+const ROUTERS: u8 = 0x01;
+
+const NAME: u8 = 0x02;
+
+const LINK: u8 = 0x04;
+
+const END: u8 = 0x7F;
+
+// What is kept of the records before: N, the last tag, the last router or pair, the number of links. All are 0 before the first record.
+pub struct Kept {
+    pub routers: u8,
+    pub tag: u8,
+    pub last: u16,
+    pub links: u16,
+}
+
+// The reading step's answer: the next record and where it ends, or a number and a place.
+pub enum Step {
+    Record { tag: u8, end: usize },
+    Refused { number: u8, place: usize },
+}
+
+// A table up to its end record: N, how many links, and where the table ends; or a number and a place.
+pub enum Judged {
+    Accepted { routers: u8, links: u16, end: usize },
+    Refused { number: u8, place: usize },
+}
+
+// What an accepted table holds: N, how many links, and where the links start.
+pub struct Outline {
+    pub routers: u8,
+    pub links: u16,
+    pub start: usize,
+}
+
+// The reading question's answer.
+pub enum Reading {
+    Accepted(Outline),
+    Refused { number: u8, place: usize },
+}
+
+// Two bytes as one number, high byte first.
+pub fn joined(high: u8, low: u8) -> u16
+    ensures { λ r. ⌜ r ≡ high * 256 + low ⌝ }
+{
+    (high as u16) * 256 + (low as u16)
+}
+
+// 2: unknown tag, first tag not 0x01, a second 0x01, or a tag below the one before.
+fn tag_is_bad(kept: Kept, tag: u8) -> bool
+    ensures { λ r. ⌜ r ≡ bad-tag (kept-of kept) tag ⌝ }
+{
+    if kept.tag == 0 {
+        return tag != ROUTERS;
+    }
+    if tag < kept.tag {
+        return true;
+    }
+    if tag == NAME {
+        return false;
+    }
+    if tag == LINK {
+        return false;
+    }
+    tag != END
+}
+
+fn length_fits(tag: u8, len: u16) -> bool
+    ensures { λ r. ⌜ r ≡ length-allowed tag len ⌝ }
+{
+    if tag == LINK {
+        return len == 4;
+    }
+    if tag == NAME {
+        if len < 2 {
+            return false;
+        }
+        return len <= 17;
+    }
+    if tag == ROUTERS {
+        return len == 1;
+    }
+    if tag == END {
+        return len == 0;
+    }
+    false
+}
+
+// Every byte from the second on may stand in a name.
+fn is_plain(contents: &[u8]) -> bool
+    ensures { λ r. ⌜ r ≡ every name-byte (drop 1 (now (contents .entry))) ⌝ }
+{
+    let mut i = 1;
+    while i < contents.len() {
+        if contents[i] < 0x21 {
+            return false;
+        }
+        if 0x7E < contents[i] {
+            return false;
+        }
+        i += 1;
+    }
+    true
+}
+
+fn name_is_fit(contents: &[u8], routers: u8) -> bool
+    requires { ⌜ 1 ≤ length (now contents) ⌝ }
+    ensures { λ r. ⌜ r ≡ name-fits routers (byte (now (contents .entry)) 0) (drop 1 (now (contents .entry))) ⌝ }
+{
+    if contents[0] < routers {
+        return is_plain(contents);
+    }
+    false
+}
+
+fn link_is_fit(contents: &[u8], routers: u8) -> bool
+    requires { ⌜ 4 ≤ length (now contents) ⌝ }
+    ensures { λ r. ⌜ r ≡ link-fits routers (link-of (now (contents .entry))) ⌝ }
+{
+    let a = contents[0];
+    let b = contents[1];
+    if b <= a {
+        return false;
+    }
+    if routers <= b {
+        return false;
+    }
+    joined(contents[2], contents[3]) != 0
+}
+
+// 4 is given where the contents are not in range.
+fn is_fit(contents: &[u8], tag: u8, routers: u8) -> bool
+    requires { ⌜ length-allowed tag (length (now contents)) ≡ true ⌝ }
+    ensures { λ r. ⌜ r ≡ contents-fit routers tag (now (contents .entry)) ⌝ }
+{
+    if tag == LINK {
+        return link_is_fit(contents, routers);
+    }
+    if tag == NAME {
+        return name_is_fit(contents, routers);
+    }
+    if tag == ROUTERS {
+        let n = contents[0];
+        if n == 0 {
+            return false;
+        }
+        return n <= 64;
+    }
+    true
+}
+
+// What orders the records of one tag: the router of a name, the pair of a link.
+fn order_of(contents: &[u8], tag: u8) -> u16
+    requires { ⌜ length-allowed tag (length (now contents)) ≡ true ⌝ }
+    ensures { λ r. ⌜ r ≡ key tag (now (contents .entry)) ⌝ }
+{
+    if tag == LINK {
+        return joined(contents[0], contents[1]);
+    }
+    if tag == NAME {
+        return contents[0] as u16;
+    }
+    0
+}
+
+// 5: name or link not above the one before it.
+fn is_not_above(contents: &[u8], tag: u8, kept: Kept) -> bool
+    requires { ⌜ length-allowed tag (length (now contents)) ≡ true ⌝ }
+    ensures { λ r. ⌜ r ≡ not-above (kept-of kept) tag (now (contents .entry)) ⌝ }
+{
+    if tag == kept.tag {
+        return order_of(contents, tag) <= kept.last;
+    }
+    false
+}
+
+// The inner reader: the number that refuses the contents of a record, 4, 5 or 6; 0 for none.
+fn refusing_number(contents: &[u8], tag: u8, kept: Kept) -> u8
+    requires { ⌜ length-allowed tag (length (now contents)) ≡ true ⌝ }
+    ensures { λ r. ⌜ r ≡ contents-number (kept-of kept) tag (now (contents .entry)) ⌝ }
+{
+    if !is_fit(contents, tag, kept.routers) {
+        return 4;
+    }
+    if is_not_above(contents, tag, kept) {
+        return 5;
+    }
+    if tag != LINK {
+        return 0;
+    }
+    if 256 <= kept.links {
+        return 6;
+    }
+    0
+}
+
+// The reading step: the record at a place, behind the records of which this is kept.
+pub fn next_record(table: &[u8], place: usize, kept: Kept) -> Step
+    ensures { λ r. ⌜ step-of (now (table .entry)) place r ≡ step (kept-of kept) place (drop place (now (table .entry))) ⌝ }
+{
+    let len = table.len();
+    if len < 3 {
+        return Step::Refused { number: 1, place };
+    }
+    if len - 3 < place {
+        return Step::Refused { number: 1, place };
+    }
+    let tag = table[place];
+    if tag_is_bad(kept, tag) {
+        return Step::Refused { number: 2, place };
+    }
+    let size = joined(table[place + 1], table[place + 2]);
+    if !length_fits(tag, size) {
+        return Step::Refused { number: 3, place };
+    }
+    let end = place + 3 + (size as usize);
+    if len < end {
+        return Step::Refused { number: 1, place };
+    }
+    let number = refusing_number(&table[place + 3..end], tag, kept);
+    if number != 0 {
+        return Step::Refused { number, place };
+    }
+    Step::Record { tag, end }
+}
+
+// What is kept behind one more record.
+fn kept_behind(kept: Kept, tag: u8, contents: &[u8]) -> Kept
+    requires { ⌜ (length-allowed tag (length (now contents)) ≡ true) × (kept .links < 65535) ⌝ }
+    ensures { λ r. ⌜ kept-of r ≡ keep (kept-of kept) (record-with tag (now (contents .entry))) ⌝ }
+{
+    let last = order_of(contents, tag);
+    if tag == LINK {
+        return Kept {
+            routers: kept.routers,
+            tag,
+            last,
+            links: kept.links + 1,
+        };
+    }
+    if tag == ROUTERS {
+        return Kept {
+            routers: contents[0],
+            tag,
+            last,
+            links: kept.links,
+        };
+    }
+    Kept {
+        routers: kept.routers,
+        tag,
+        last,
+        links: kept.links,
+    }
+}
+
+// The refusal that a step gave.
+fn refusal(step: Step) -> Judged
+    ensures { λ r. ⌜ r ≡ refusal-in step ⌝ }
+{
+    match step {
+        Step::Record { tag, end } => Judged::Refused {
+            number: 0,
+            place: end,
+        },
+        Step::Refused { number, place } => Judged::Refused { number, place },
+    }
+}
+
+// Records are judged in file order, up to the end record, and the first bad one decides. What stands behind the end record is not looked at.
+pub fn judge(table: &[u8]) -> Judged
+    ensures { λ r. ⌜ r ≡ judged-of (Table.judge (now (table .entry))) ⌝ }
+{
+    let mut kept = Kept {
+        routers: 0,
+        tag: 0,
+        last: 0,
+        links: 0,
+    };
+    let mut place = 0;
+    loop {
+        let step = next_record(table, place, kept);
+        let Step::Record { tag, end } = step else {
+            return refusal(step);
+        };
+        if tag == END {
+            return Judged::Accepted {
+                routers: kept.routers,
+                links: kept.links,
+                end,
+            };
+        }
+        kept = kept_behind(kept, tag, &table[place + 3..end]);
+        place = end;
+    }
+}
+
+// The reading question: a whole byte string, behind whose end record nothing may stand.
+pub fn read(table: &[u8]) -> Reading
+    ensures { λ r. ⌜ (reading-numbers r ≡ read-answer (now (table .entry))) × Outlined (now (table .entry)) r ⌝ }
+{
+    let judged = judge(table);
+    match judged {
+        Judged::Accepted {
+            routers,
+            links,
+            end,
+        } => {
+            if end < table.len() {
+                return Reading::Refused {
+                    number: 7,
+                    place: end,
+                };
+            }
+            Reading::Accepted(Outline {
+                routers,
+                links,
+                start: end - 3 - (links as usize) * 7,
+            })
+        }
+        Judged::Refused { number, place } => Reading::Refused { number, place },
+    }
+}
