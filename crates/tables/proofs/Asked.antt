@@ -2,22 +2,20 @@
 -- Assumes nothing.
 use mathlib.Core.Path.{_≡_, refl, sym, _∙_, ap, ap₂, subst}
 use mathlib.Core.Logic.{_≢_}
-use mathlib.Core.Bool.{Bool, true, false}
+use mathlib.Core.Bool.{true, false}
 use mathlib.Core.List.{List, [], _∷_}
 use Prim.Native.Nat.{ℕ, _+_, _-_, _*_, _≤_, _<_}
 use native.Mathlib.Omega.{arith}
-use lib.Dec.{eqb, ltb}
 use lib.ListN.{length}
-use borrow.Author.Tests.{eq-eqb, ne-eqb, lt-ltb, le-ltb}
-use Rattle.rules.specs.Words.{Line, pick}
+use borrow.Author.Tests.{ne-eqb, lt-ltb, le-ltb}
+use Rattle.rules.specs.Words.{Line}
 use Rattle.rules.specs.Layout.{Table}
-use Rattle.rules.specs.Table.{Record, Judged, accepted, refused, judge, nothing-behind, read, number-of, place-of, records-of, routers-of, table-of, says}
-use Rattle.rules.specs.Questions.{Refusal, refusal, Answer, answer, table-refusal, Reading, read-answer}
+use Rattle.rules.specs.Table.{Record, Judged, accepted, refused, judge, nothing-behind, read, number-of, place-of, records-of, table-of, says}
+use Rattle.rules.specs.Questions.{Refusal, refusal, answer, table-refusal, Reading, read-answer}
 use Rattle.rules.proofs.Basics.{pick-t, pick-f}
 use Rattle.rules.proofs.Refusals.{table-refusals}
 use Rattle.tables.specs.Answers.{answered, refused-with}
 use Rattle.tables.specs.Readings.{judged-of, links-place, links-start, reading-numbers, outline-of, Outlined}
-use Rattle.tables.specs.declared.Judged.{Judged as JudgedHere}
 use Rattle.tables.specs.declared.Judged.the-variants as here
 use Rattle.tables.specs.declared.Outline.{Outline}
 use Rattle.tables.specs.declared.Reading.{Reading as ReadingHere}

@@ -3,3 +3,4 @@ pub mod Stepping
 pub mod Turns
 pub mod Places
 pub mod Asked
+pub mod Settled

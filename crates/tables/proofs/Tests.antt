@@ -1,9 +1,9 @@
 -- The tests on one record, each by the facts that decide it, over plain numbers and lists.
 -- Assumes nothing.
-use mathlib.Core.Path.{_≡_, refl, sym, _∙_, ap}
+use mathlib.Core.Path.{_≡_, refl, sym, _∙_}
 use mathlib.Core.Logic.{_≢_}
 use mathlib.Core.Bool.{Bool, true, false, _&&_, _||_, not, or-true, and-false}
-use mathlib.Core.List.{List, [], _∷_}
+use mathlib.Core.List.{List}
 use Prim.Native.Nat.{ℕ, zero, suc, _+_, _≤_, _<_}
 use native.Mathlib.Omega.{arith}
 use native.Mathlib.Numerals.{add-one}
@@ -11,9 +11,9 @@ use lib.Dec.{eqb, ltb, leb}
 use lib.ListN.{length, drop, drop-of-length-le}
 use lib.Seq.{drop-cons}
 use borrow.Author.Tests.{eq-eqb, ne-eqb, eqb-true, leb-true, lt-ltb, le-ltb, le-leb, lt-leb}
-use Rattle.rules.specs.Words.{pick, every}
-use Rattle.rules.specs.Layout.{Link, tag-routers, tag-name, tag-link, tag-end}
-use Rattle.rules.specs.Table.{byte, two-bytes, link-of, known-tag, length-allowed, routers-fit, name-byte, name-fits, link-fits, contents-fit, key, Kept, keep, bad-tag, not-above, too-many}
+use Rattle.rules.specs.Words.{every}
+use Rattle.rules.specs.Layout.{tag-routers, tag-name, tag-link, tag-end}
+use Rattle.rules.specs.Table.{byte, two-bytes, link-of, known-tag, length-allowed, routers-fit, name-byte, name-fits, link-fits, contents-fit, key, Kept, bad-tag}
 use Rattle.rules.proofs.Basics.{both}
 
 -- ---- the tag
@@ -147,26 +147,30 @@ module _ (contents : List ℕ) (n : ℕ) where
       positive zero = refl
       positive (suc w) = rw (ne-eqb (suc w) 0 (omega arith), le-leb 1 (suc w) (omega arith))
 
-module _ (contents : List ℕ) (tag n : ℕ) where
-  pub fit-link : tag ≡ tag-link → (r : Bool) → r ≡ link-fits n (link-of contents) → r ≡ contents-fit n tag contents
+module _ (contents : List ℕ) (n : ℕ) where
+  pub fit-link : contents-fit n tag-link contents ≡ link-fits n (link-of contents)
   unfolding contents-fit
-  fit-link e r f = rw e f
+  fit-link = refl
 
-  pub fit-name : tag ≡ tag-name → (r : Bool) → r ≡ name-fits n (byte contents 0) (drop 1 contents) → r ≡ contents-fit n tag contents
+  pub fit-name : contents-fit n tag-name contents ≡ name-fits n (byte contents 0) (drop 1 contents)
   unfolding contents-fit
-  fit-name e r f = rw e f
+  fit-name = refl
 
-  pub fit-none : tag ≡ tag-routers → byte contents 0 ≡ 0 → false ≡ contents-fit n tag contents
+  pub fit-none : byte contents 0 ≡ 0 → contents-fit n tag-routers contents ≡ false
   unfolding contents-fit routers-fit
-  fit-none e h = rw (e, h)
+  fit-none h = rw h
 
-  pub fit-routers : tag ≡ tag-routers → byte contents 0 ≢ 0 → leb (byte contents 0) 64 ≡ contents-fit n tag contents
+  pub fit-many : 64 < byte contents 0 → contents-fit n tag-routers contents ≡ false
   unfolding contents-fit routers-fit
-  fit-routers e h = rw (e, le-leb 1 (byte contents 0) (omega arith))
+  fit-many h = rw (lt-leb (byte contents 0) 64 h) (and-false (leb 1 (byte contents 0)))
 
-  pub fit-else : tag ≢ tag-link → tag ≢ tag-name → tag ≢ tag-routers → true ≡ contents-fit n tag contents
+  pub fit-routers : byte contents 0 ≢ 0 → byte contents 0 ≤ 64 → contents-fit n tag-routers contents ≡ true
+  unfolding contents-fit routers-fit
+  fit-routers h m = rw (le-leb 1 (byte contents 0) (omega arith), le-leb (byte contents 0) 64 m)
+
+  pub fit-else : (tag : ℕ) → tag ≢ tag-link → tag ≢ tag-name → tag ≢ tag-routers → contents-fit n tag contents ≡ true
   unfolding contents-fit
-  fit-else l m r = rw (ne-eqb tag tag-routers r, ne-eqb tag tag-name m, ne-eqb tag tag-link l)
+  fit-else tag l m r = rw (ne-eqb tag tag-routers r, ne-eqb tag tag-name m, ne-eqb tag tag-link l)
 
 -- ---- the order
 
@@ -183,11 +187,9 @@ module _ (contents : List ℕ) (tag : ℕ) where
   unfolding key
   key-else l n = rw (ne-eqb tag tag-name n, ne-eqb tag tag-link l)
 
-  module _ (kept : Kept) where
-    pub same-tag : tag ≡ kept .tag → (k : ℕ) → k ≡ key tag contents → leb k (kept .last) ≡ not-above kept tag contents
-    unfolding not-above
-    same-tag e k f = rw (eq-eqb tag (kept .tag) e, ← f)
+module _ (tag kept-tag order last : ℕ) where
+  pub same-tag : tag ≡ kept-tag → leb order last ≡ (eqb tag kept-tag && leb order last)
+  same-tag e = rw (eq-eqb tag kept-tag e)
 
-    pub other-tag : tag ≢ kept .tag → false ≡ not-above kept tag contents
-    unfolding not-above
-    other-tag e = rw (ne-eqb tag (kept .tag) e)
+  pub other-tag : tag ≢ kept-tag → false ≡ (eqb tag kept-tag && leb order last)
+  other-tag e = rw (ne-eqb tag kept-tag e)

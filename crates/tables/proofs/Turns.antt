@@ -8,12 +8,12 @@ use Prim.Native.Nat.{ℕ, suc, _+_, _-_, _≤_, _<_, add·zero}
 use native.Mathlib.Omega.{arith}
 use native.Mathlib.Nat.{add-zero}
 use lib.Dec.{eqb, leb}
-use lib.ListN.{length, take, drop, length-drop}
+use lib.ListN.{length, drop, length-drop}
 use lib.Seq.{drop-drop}
-use borrow.Author.Tests.{ltb-false, leb-false, eq-eqb, ne-eqb, le-leb}
+use borrow.Author.Tests.{leb-false, eq-eqb, ne-eqb}
 use Rattle.rules.specs.Words.{pick, those}
 use Rattle.rules.specs.Layout.{Link, tag-routers, tag-link, tag-end}
-use Rattle.rules.specs.Table.{byte, link-of, Record, Kept, nothing-kept, keep, length-allowed, too-many, record-in, Step, good, bad, step, Judged, accepted, refused, followed-by, judge-from, judge, routers-of, table-of}
+use Rattle.rules.specs.Table.{byte, link-of, Record, Kept, nothing-kept, keep, length-allowed, too-many, record-in, Step, good, step, Judged, accepted, refused, followed-by, judge-from, judge, routers-of, table-of}
 use Rattle.rules.proofs.Basics.{pick-t, pick-f}
 use Rattle.rules.proofs.Judging.{size-in, contents-in, Good, Steps, gives, refuses, steps, Judges, stops, ends, goes, judges, judged, judge-stops, judge-ends, judge-goes, judge-judges}
 use Rattle.rules.proofs.Records.{tag-order, length-contents}

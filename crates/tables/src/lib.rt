@@ -1,10 +1,11 @@
 // Reading tables: the reading step, judging up to the end record, the reading question.
 ghost use mathlib.Core.Path.{_≡_};
-ghost use mathlib.Core.Bool.{true};
-ghost use Prim.Native.Nat.{ℕ, _+_, _*_, _<_, _≤_};
+ghost use mathlib.Core.Bool.{true, _&&_};
+ghost use Prim.Native.Nat.{_+_, _*_, _<_, _≤_};
 ghost use lib.ListN.{length, drop};
-ghost use Rattle.rules.specs.Words.{every};
-ghost use Rattle.rules.specs.Table.{byte, bad-tag, length-allowed, name-byte, name-fits, link-fits, link-of, contents-fit, not-above, key, keep, step};
+ghost use Rattle.rules.specs.Words.{_=?_, _≤?_, every};
+ghost use Rattle.rules.specs.Layout.{tag-routers, tag-name, tag-link};
+ghost use Rattle.rules.specs.Table.{byte, bad-tag, length-allowed, name-byte, name-fits, link-fits, link-of, key, keep, step};
 ghost use Rattle.rules.specs.Table as Table;
 ghost use Rattle.rules.specs.Questions.{read-answer};
 ghost use Rattle.tables.specs.Steps.{kept-of, step-of, contents-number, record-with};
@@ -77,6 +78,7 @@ fn tag_is_bad(kept: Kept, tag: u8) -> bool
     tag != END
 }
 
+// The lengths that a tag allows.
 fn length_fits(tag: u8, len: u16) -> bool
     ensures { λ r. ⌜ r ≡ length-allowed tag len ⌝ }
 {
@@ -115,6 +117,7 @@ fn is_plain(contents: &[u8]) -> bool
     true
 }
 
+// A name's contents are in range: its router, then its bytes.
 fn name_is_fit(contents: &[u8], routers: u8) -> bool
     requires { ⌜ 1 ≤ length (now contents) ⌝ }
     ensures { λ r. ⌜ r ≡ name-fits routers (byte (now (contents .entry)) 0) (drop 1 (now (contents .entry))) ⌝ }
@@ -125,6 +128,7 @@ fn name_is_fit(contents: &[u8], routers: u8) -> bool
     false
 }
 
+// A link's contents are in range. Both ends are below N if b is, and two bytes cannot exceed 65535.
 fn link_is_fit(contents: &[u8], routers: u8) -> bool
     requires { ⌜ 4 ≤ length (now contents) ⌝ }
     ensures { λ r. ⌜ r ≡ link-fits routers (link-of (now (contents .entry))) ⌝ }
@@ -138,27 +142,6 @@ fn link_is_fit(contents: &[u8], routers: u8) -> bool
         return false;
     }
     joined(contents[2], contents[3]) != 0
-}
-
-// 4 is given where the contents are not in range.
-fn is_fit(contents: &[u8], tag: u8, routers: u8) -> bool
-    requires { ⌜ length-allowed tag (length (now contents)) ≡ true ⌝ }
-    ensures { λ r. ⌜ r ≡ contents-fit routers tag (now (contents .entry)) ⌝ }
-{
-    if tag == LINK {
-        return link_is_fit(contents, routers);
-    }
-    if tag == NAME {
-        return name_is_fit(contents, routers);
-    }
-    if tag == ROUTERS {
-        let n = contents[0];
-        if n == 0 {
-            return false;
-        }
-        return n <= 64;
-    }
-    true
 }
 
 // What orders the records of one tag: the router of a name, the pair of a link.
@@ -175,33 +158,81 @@ fn order_of(contents: &[u8], tag: u8) -> u16
     0
 }
 
-// 5: name or link not above the one before it.
-fn is_not_above(contents: &[u8], tag: u8, kept: Kept) -> bool
-    requires { ⌜ length-allowed tag (length (now contents)) ≡ true ⌝ }
-    ensures { λ r. ⌜ r ≡ not-above (kept-of kept) tag (now (contents .entry)) ⌝ }
+// 5: not above the record before it, where that has the same tag.
+fn is_not_above(kept: Kept, tag: u8, order: u16) -> bool
+    ensures { λ r. ⌜ r ≡ (tag =? kept .tag && order ≤? kept .last) ⌝ }
 {
     if tag == kept.tag {
-        return order_of(contents, tag) <= kept.last;
+        return order <= kept.last;
     }
     false
 }
 
-// The inner reader: the number that refuses the contents of a record, 4, 5 or 6; 0 for none.
-fn refusing_number(contents: &[u8], tag: u8, kept: Kept) -> u8
-    requires { ⌜ length-allowed tag (length (now contents)) ≡ true ⌝ }
-    ensures { λ r. ⌜ r ≡ contents-number (kept-of kept) tag (now (contents .entry)) ⌝ }
+// The number that refuses the contents of a link, 0 for none.
+fn link_number(contents: &[u8], kept: Kept) -> u8
+    requires { ⌜ 4 ≤ length (now contents) ⌝ }
+    ensures { λ r. ⌜ r ≡ contents-number (kept-of kept) tag-link (now (contents .entry)) ⌝ }
 {
-    if !is_fit(contents, tag, kept.routers) {
+    if !link_is_fit(contents, kept.routers) {
         return 4;
     }
-    if is_not_above(contents, tag, kept) {
+    if is_not_above(kept, LINK, joined(contents[0], contents[1])) {
         return 5;
-    }
-    if tag != LINK {
-        return 0;
     }
     if 256 <= kept.links {
         return 6;
+    }
+    0
+}
+
+// The number that refuses the contents of a name.
+fn name_number(contents: &[u8], kept: Kept) -> u8
+    requires { ⌜ 1 ≤ length (now contents) ⌝ }
+    ensures { λ r. ⌜ r ≡ contents-number (kept-of kept) tag-name (now (contents .entry)) ⌝ }
+{
+    if !name_is_fit(contents, kept.routers) {
+        return 4;
+    }
+    if is_not_above(kept, NAME, contents[0] as u16) {
+        return 5;
+    }
+    0
+}
+
+// The number that refuses the contents of the routers record.
+fn routers_number(contents: &[u8], kept: Kept) -> u8
+    requires { ⌜ 1 ≤ length (now contents) ⌝ }
+    ensures { λ r. ⌜ r ≡ contents-number (kept-of kept) tag-routers (now (contents .entry)) ⌝ }
+{
+    let routers = contents[0];
+    if routers == 0 {
+        return 4;
+    }
+    if 64 < routers {
+        return 4;
+    }
+    if is_not_above(kept, ROUTERS, 0) {
+        return 5;
+    }
+    0
+}
+
+// The inner reader: the number that refuses the contents of a record, judged as a part of their own: 4, 5 or 6; 0 for none.
+fn contents_number(contents: &[u8], tag: u8, kept: Kept) -> u8
+    requires { ⌜ length-allowed tag (length (now contents)) ≡ true ⌝ }
+    ensures { λ r. ⌜ r ≡ contents-number (kept-of kept) tag (now (contents .entry)) ⌝ }
+{
+    if tag == LINK {
+        return link_number(contents, kept);
+    }
+    if tag == NAME {
+        return name_number(contents, kept);
+    }
+    if tag == ROUTERS {
+        return routers_number(contents, kept);
+    }
+    if is_not_above(kept, tag, 0) {
+        return 5;
     }
     0
 }
@@ -229,7 +260,7 @@ pub fn next_record(table: &[u8], place: usize, kept: Kept) -> Step
     if len < end {
         return Step::Refused { number: 1, place };
     }
-    let number = refusing_number(&table[place + 3..end], tag, kept);
+    let number = contents_number(&table[place + 3..end], tag, kept);
     if number != 0 {
         return Step::Refused { number, place };
     }
@@ -266,7 +297,7 @@ fn kept_behind(kept: Kept, tag: u8, contents: &[u8]) -> Kept
     }
 }
 
-// The refusal that a step gave.
+// The refusal that a step gave; it is asked of no other step.
 fn refusal(step: Step) -> Judged
     ensures { λ r. ⌜ r ≡ refusal-in step ⌝ }
 {

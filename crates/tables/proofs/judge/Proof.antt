@@ -1,10 +1,10 @@
 use native.Mathlib.Omega.{arith}
 use borrow.Author.Needs.{needs}
-use Rattle.tables.proofs.Turns.{Found, found, found-inside, found-length, found-few, told-from, told-first, told-refused, told-ended, told-next}
+use Rattle.tables.proofs.Turns.{found, found-inside, found-length, found-few, told-from, told-first, told-refused, told-ended, told-next}
 use Rattle.tables.specs.Steps.{kept-of}
 use Rattle.tables.specs.Readings.{judged-of}
-use Rattle.rules.specs.Table.{judge, keep}
-use mathlib.Core.Path.{_≡_, sym, _∙_, ap}
+use Rattle.rules.specs.Table.{judge}
+use mathlib.Core.Path.{_≡_, _∙_, ap}
 use Prim.Native.Nat.{_-_, _≤_}
 use lib.ListN.{length}
 use Rattle.tables.proofs.judge.Statement.{statement}

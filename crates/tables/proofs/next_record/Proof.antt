@@ -9,7 +9,7 @@ use Rattle.tables.proofs.next_record.Reads as reads
 use Rattle.tables.proofs.next_record.Lts as lts
 use Rattle.tables.proofs.joined.Reads as joined-reads
 use Rattle.tables.proofs.length_fits.Reads as length-fits-reads
-use Rattle.tables.proofs.refusing_number.Reads as refusing-number-reads
+use Rattle.tables.proofs.contents_number.Reads as contents-number-reads
 use Rattle.tables.proofs.tag_is_bad.Reads as tag-is-bad-reads
 
 -- src/lib.rt:215:9
@@ -77,32 +77,32 @@ returns-5 : tie.Need-returns-5
 returns-5 c = step-contents _ _ _ (omega arith) (sym (c .before .before .before .before .before .before .before .tag-is-bad .ensures) ∙ c .before .before .before .before .before .before .if3 .left) _ (c .before .before .before .joined .ensures) (sym (c .before .before .length-fits .ensures) ∙ not-false _ (c .before .if4 .left)) (c .if5 .taken)
 
 -- src/lib.rt:232:41
-add-refusing-number : tie.Need-add-refusing-number
-add-refusing-number c = search needs
+add-contents-number : tie.Need-add-contents-number
+add-contents-number c = search needs
 
 -- src/lib.rt:232:34
-sub-refusing-number : tie.Need-sub-refusing-number
-sub-refusing-number c = search needs
+sub-contents-number : tie.Need-sub-contents-number
+sub-contents-number c = search needs
 
 -- src/lib.rt:232:34
-part-refusing-number-start : tie.Need-part-refusing-number-start
-part-refusing-number-start c = search needs
+part-contents-number-start : tie.Need-part-contents-number-start
+part-contents-number-start c = search needs
 
 -- src/lib.rt:232:34
-part-refusing-number-end : tie.Need-part-refusing-number-end
-part-refusing-number-end c = search needs
+part-contents-number-end : tie.Need-part-contents-number-end
+part-contents-number-end c = search needs
 
 -- src/lib.rt:232:9
-refusing-number-requires : tie.Need-refusing-number-requires
-refusing-number-requires c κs = contents-length (c .before .before .before .before .before .before .before .before .before .before .before .before .before .args .table .now) (c .before .before .before .before .before .before .before .before .before .before .before .before .before .args .place) _ (sym (c .before .before .before .length-fits .ensures) ∙ not-false _ (c .before .before .if4 .left)) (c .before .if5 .left)
+contents-number-requires : tie.Need-contents-number-requires
+contents-number-requires c κs = contents-length (c .before .before .before .before .before .before .before .before .before .before .before .before .before .args .table .now) (c .before .before .before .before .before .before .before .before .before .before .before .before .before .args .place) _ (sym (c .before .before .before .length-fits .ensures) ∙ not-false _ (c .before .before .if4 .left)) (c .before .if5 .left)
 
 -- src/lib.rt:234:9
 returns-6 : tie.Need-returns-6
-returns-6 c = step-number _ _ _ (omega arith) (sym (c .before .before .before .before .before .before .before .before .before .before .tag-is-bad .ensures) ∙ c .before .before .before .before .before .before .before .before .before .if3 .left) _ (c .before .before .before .before .before .before .joined .ensures) (sym (c .before .before .before .before .before .length-fits .ensures) ∙ not-false _ (c .before .before .before .before .if4 .left)) (c .before .before .before .if5 .left) _ (c .before .refusing-number .ensures) (c .if6 .taken)
+returns-6 c = step-number _ _ _ (omega arith) (sym (c .before .before .before .before .before .before .before .before .before .before .tag-is-bad .ensures) ∙ c .before .before .before .before .before .before .before .before .before .if3 .left) _ (c .before .before .before .before .before .before .joined .ensures) (sym (c .before .before .before .before .before .length-fits .ensures) ∙ not-false _ (c .before .before .before .before .if4 .left)) (c .before .before .before .if5 .left) _ (c .before .contents-number .ensures) (c .if6 .taken)
 
 -- src/lib.rt:210:1
 returns-7 : tie.Need-returns-7
-returns-7 c = step-record _ _ _ (omega arith) (sym (c .before .before .before .before .before .before .before .before .before .before .tag-is-bad .ensures) ∙ c .before .before .before .before .before .before .before .before .before .if3 .left) _ (c .before .before .before .before .before .before .joined .ensures) (sym (c .before .before .before .before .before .length-fits .ensures) ∙ not-false _ (c .before .before .before .before .if4 .left)) (c .before .before .before .if5 .left) _ (c .before .refusing-number .ensures) (c .if6 .left)
+returns-7 c = step-record _ _ _ (omega arith) (sym (c .before .before .before .before .before .before .before .before .before .before .tag-is-bad .ensures) ∙ c .before .before .before .before .before .before .before .before .before .if3 .left) _ (c .before .before .before .before .before .before .joined .ensures) (sym (c .before .before .before .before .before .length-fits .ensures) ∙ not-false _ (c .before .before .before .before .if4 .left)) (c .before .before .before .if5 .left) _ (c .before .contents-number .ensures) (c .if6 .left)
 
 pub next-record-spec : {M : Type 1} → statement M
 next-record-spec =
@@ -124,10 +124,10 @@ next-record-spec =
     cast-end
     add-end-2
     returns-5
-    add-refusing-number
-    sub-refusing-number
-    part-refusing-number-start
-    part-refusing-number-end
-    refusing-number-requires
+    add-contents-number
+    sub-contents-number
+    part-contents-number-start
+    part-contents-number-end
+    contents-number-requires
     returns-6
     returns-7)

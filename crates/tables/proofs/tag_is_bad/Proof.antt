@@ -1,6 +1,6 @@
 use Rattle.rules.specs.Table.{known-tag}
 use native.Mathlib.Omega.{arith}
-use mathlib.Core.Path.{_∙_, ap, refl}
+use mathlib.Core.Path.{ap}
 use Rattle.tables.proofs.Tests.{tag-first, tag-below, tag-in-order, tag-last}
 use Rattle.tables.proofs.tag_is_bad.Statement.{statement}
 use Rattle.tables.proofs.tag_is_bad.Tie as tie

@@ -1,0 +1,4 @@
+pub mod Place
+pub mod Stand
+pub mod Runs
+pub mod Settled

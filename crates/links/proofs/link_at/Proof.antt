@@ -1,0 +1,74 @@
+-- `links::link_at` meets its contract.
+-- Assumes nothing.
+use Rattle.links.proofs.Place.{there, cut, other, tells-none, tells-one}
+use mathlib.Core.Path.{refl}
+use native.Mathlib.Omega.{arith}
+use borrow.Author.Needs.{needs}
+use Rattle.links.proofs.link_at.Statement.{statement}
+use Rattle.links.proofs.link_at.Tie as tie
+
+returns : tie.Need-returns
+returns c = tells-none _ _ (cut _ _ (omega arith))
+
+returns-2 : tie.Need-returns-2
+returns-2 c = tells-none _ _ (cut _ _ (omega arith))
+
+shared-slice-read-if3 : tie.Need-shared-slice-read-if3
+shared-slice-read-if3 c = search needs
+
+returns-3 : tie.Need-returns-3
+returns-3 c = tells-none _ _ (other _ _ (c .if3 .taken))
+
+add-t5 : tie.Need-add-t5
+add-t5 c = search needs
+
+shared-slice-read-t7 : tie.Need-shared-slice-read-t7
+shared-slice-read-t7 c = search needs
+
+add-t9 : tie.Need-add-t9
+add-t9 c = search needs
+
+shared-slice-read-t11 : tie.Need-shared-slice-read-t11
+shared-slice-read-t11 c = search needs
+
+add-joined : tie.Need-add-joined
+add-joined c = search needs
+
+shared-slice-read-joined : tie.Need-shared-slice-read-joined
+shared-slice-read-joined c = search needs
+
+add-joined-2 : tie.Need-add-joined-2
+add-joined-2 c = search needs
+
+shared-slice-read-joined-2 : tie.Need-shared-slice-read-joined-2
+shared-slice-read-joined-2 c = search needs
+
+joined-requires : tie.Need-joined-requires
+joined-requires c κs = search needs
+
+add-t19 : tie.Need-add-t19
+add-t19 c = search needs
+
+returns-4 : tie.Need-returns-4
+returns-4 c =
+    tells-one _ _ _ _ _ (there _ _ (omega arith) (c .before .before .before .before .before .if3 .left)) refl refl (c .joined .ensures)
+
+pub link-at-spec : {M : Type 1} → statement M
+link-at-spec =
+    tie.close
+    (tie.spec
+    returns
+    returns-2
+    shared-slice-read-if3
+    returns-3
+    add-t5
+    shared-slice-read-t7
+    add-t9
+    shared-slice-read-t11
+    add-joined
+    shared-slice-read-joined
+    add-joined-2
+    shared-slice-read-joined-2
+    joined-requires
+    add-t19
+    returns-4)

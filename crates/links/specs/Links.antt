@@ -1,0 +1,43 @@
+-- The link at a place of a table, and where a link reader starts.
+use mathlib.Core.Path.{_≡_}
+use mathlib.Core.Bool.{Bool, _&&_}
+use mathlib.Core.List.{List}
+use Prim.Native.Nat.{ℕ, _+_}
+use lib.ListN.{length, drop}
+use Rattle.rules.specs.Words.{_=?_, _≤?_, pick}
+use Rattle.rules.specs.Layout.{tag-link}
+use Rattle.rules.specs.Table.{byte, link-of, read, number-of}
+use Rattle.rules.specs.Questions.{NextLink, no-more}
+use Rattle.tables.specs.Readings.{links-start}
+use Rattle.links.specs.declared.NextLink.{NextLink as NextLinkHere}
+use Rattle.links.specs.declared.NextLink.the-variants.{One, NoMore}
+
+-- a link's record stands whole at a place: its tag, and all its seven bytes
+unfoldable pub link-there : List ℕ → ℕ → Bool
+link-there bytes place = place + 7 ≤? length bytes && byte bytes place =? tag-link
+
+-- the link whose record stands at a place, or "no more"
+unfoldable pub link-at : List ℕ → ℕ → NextLink
+link-at bytes place = pick (link-there bytes place) (record { more = 1; link = link-of (drop (place + 3) bytes) }) no-more
+
+-- the place behind it; where there is none, the same place
+unfoldable pub behind : List ℕ → ℕ → ℕ
+behind bytes place = pick (link-there bytes place) (place + 7) place
+
+-- where a reader starts: at the first link; of a refused table at its end, where no link stands
+unfoldable pub reader-start : List ℕ → ℕ
+reader-start bytes = pick (number-of (read bytes) =? 0) (links-start bytes) (length bytes)
+
+-- the numbers of each case
+unfoldable pub next-numbers : NextLinkHere → NextLink
+next-numbers (One a b weight next) = record { more = 1; link = record { a = a; b = b; weight = weight } }
+next-numbers NoMore = no-more
+
+-- the place that the answer to a question at a place leads to
+unfoldable pub place-in : ℕ → NextLinkHere → ℕ
+place-in place (One a b weight next) = next
+place-in place NoMore = place
+
+-- what is told at a place: the link whose record stands there, and the place behind it
+abbrev pub Tells : List ℕ → ℕ → NextLinkHere → Type 0
+Tells bytes place r = (next-numbers r ≡ link-at bytes place) × (place-in place r ≡ behind bytes place)

@@ -1,0 +1,4 @@
+pub mod NamesListed
+pub mod Seeking
+pub mod Namings
+pub mod Settled

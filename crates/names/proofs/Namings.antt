@@ -1,0 +1,249 @@
+-- The companion's answers and the parts handed back, case by case.
+-- Assumes nothing.
+use mathlib.Core.Path.{_≡_, refl, sym, _∙_, ap, subst}
+use mathlib.Core.Logic.{_⊎_, inl, inr}
+use mathlib.Core.Bool.{Bool, true, false, _||_, or-true}
+use mathlib.Core.Option.{Option, none, some}
+use mathlib.Core.List.{List, [], _∷_}
+use Prim.Native.Nat.{ℕ, _+_, _-_, _≤_, _<_}
+use native.Mathlib.Omega.{arith}
+use lib.Dec.{eqb, leb}
+use lib.ListN.{length, take, drop}
+use borrow.Author.Tests.{eq-eqb, ne-eqb, le-leb, lt-leb}
+use denote.Ref.{RefT}
+use types.Run.{OneOf}
+use denote.Enum.Declared.{tagOf, declared}
+use Rattle.rules.specs.Words.{Line, pick}
+use Rattle.rules.specs.Layout.{Name}
+use Rattle.rules.specs.Table.{number-of, read, says}
+use Rattle.rules.specs.Names.{Part, part-or, empty-part, named, or-else}
+use Rattle.rules.specs.Questions.{Answer, Refusal, answer, name-for, name-answer, name-part, two-names-answer, two-names-part}
+use Rattle.rules.proofs.Basics.{pick-t, pick-f}
+use Rattle.rules.proofs.Refusals.{gives-values}
+use Rattle.rules.proofs.Cases.{answered-exactly}
+use Rattle.tables.specs.Answers.{answered}
+use Rattle.names.specs.Namings.{naming-numbers, Placed, naming-of, naming-of-two}
+use Rattle.names.specs.Parts.{PartAt, IsPart, IsPartOfTwo}
+use Rattle.names.specs.declared.Naming.{Naming}
+use Rattle.names.specs.declared.Naming.the-variants.{Named, Unnamed, Refused}
+use Rattle.names.proofs.Naming.{enum}
+use Rattle.names.proofs.Seeking.{named-within}
+use Rattle.tables.specs.declared.Outline.{Outline}
+use Rattle.tables.specs.declared.Reading.{Reading}
+use Rattle.tables.specs.declared.Reading.the-variants as reading
+use Rattle.tables.proofs.Asked.{Promise, reading-accepted, reading-refused, line-applies, line-passes, no-line, table-bad, table-good}
+
+-- what the companion promises of its answer: the numbers, and the part
+abbrev pub Promised : Answer ℕ → Part → Naming → Type 0
+Promised said part n = (naming-numbers n ≡ said) × Placed part n
+
+-- ---- the name in the new table, or else the one in the old
+
+-- not unnamed in the new table
+pub first-named : (n : Naming) (in-old in-new : Option Name) → n ≡ naming-of 1 in-new → OneOf (0 ∷ 2 ∷ []) (tagOf (declared enum) n)
+    → n ≡ naming-of-two in-old in-new
+unfolding naming-of naming-of-two
+first-named n in-old (some m) e t = e
+first-named n in-old none e t = absurd (go t)
+  where
+    unnamed : tagOf (declared enum) n ≡ 1
+    unnamed = ap (tagOf (declared enum)) e
+
+    go : OneOf (0 ∷ 2 ∷ []) (tagOf (declared enum) n) → ⊥
+    go (inl z) = omega (arith, unnamed)
+    go (inr z) = omega (arith, unnamed)
+
+-- unnamed in the new table
+pub then-old : (n r : Naming) (in-old in-new : Option Name) → n ≡ naming-of 1 in-new → tagOf (declared enum) n ≡ 1 → r ≡ naming-of 0 in-old
+    → r ≡ naming-of-two in-old in-new
+unfolding naming-of naming-of-two
+then-old n r in-old (some m) e t q = absurd (omega (arith, sym t ∙ ap (tagOf (declared enum)) e))
+then-old n r in-old none e t q = q
+
+-- ---- the companion's answer for one table
+
+abbrev pub PromisedIn : List ℕ → ℕ → Naming → Type 0
+PromisedIn bytes router = Promised (name-answer bytes router) (name-part bytes router)
+
+module _ (bytes : List ℕ) (router : ℕ) (r : Reading) (p : Promise bytes r) where
+  pub in-refused : (number place : ℕ) → r ≡ reading.Refused number place → PromisedIn bytes router (Refused number 0 place)
+  unfolding name-answer naming-numbers
+  in-refused number place e =
+      let (n, q, h) = reading-refused bytes r number place p e in
+      (sym (table-bad 0 bytes number place _ _ _ n q h), h)
+
+  module _ (t : Outline) (e : r ≡ reading.Accepted t) where
+    pub in-above : t .routers ≤ router → PromisedIn bytes router (Refused 9 0 0)
+    unfolding name-answer naming-numbers
+    in-above h =
+        let (accepted, outline) = reading-accepted bytes r t p e in
+        let above : says bytes .routers ≤ router = rw outline at h in
+        (sym (table-good 0 bytes _ _ _ accepted ∙ line-applies _ _ _ _ (le-leb _ _ above) (omega arith)), omega arith)
+
+    pub in-found : (n : Naming) → router < t .routers → n ≡ naming-of 0 (name-for bytes router) → PromisedIn bytes router n
+    unfolding name-answer name-part naming-numbers naming-of
+    in-found n h q = subst (PromisedIn bytes router) (sym q) (go (name-for bytes router) said part)
+      where
+        said : name-answer bytes router ≡ answered (named (name-for bytes router))
+        said =
+            let (accepted, outline) = reading-accepted bytes r t p e in
+            let below : router < says bytes .routers = rw outline at h in
+            table-good 0 bytes _ _ _ accepted ∙ line-passes _ _ _ _ (lt-leb _ _ below) ∙ no-line _ _
+
+        part : name-part bytes router ≡ part-or 0 (name-for bytes router) (empty-part 0 bytes)
+        part = pick-t _ _ _ (eq-eqb _ 0 (ap (λ a. a .refusal .number) said))
+
+        go : (o : Option Name) → name-answer bytes router ≡ answered (named o) → name-part bytes router ≡ part-or 0 o (empty-part 0 bytes)
+            → PromisedIn bytes router (naming-of 0 o)
+        go none e p = (sym e, tt)
+        go (some m) e p = (sym e, sym p)
+
+-- ---- the companion's answer for two tables
+
+abbrev pub PromisedInTwo : List ℕ → List ℕ → ℕ → Naming → Type 0
+PromisedInTwo old new router = Promised (two-names-answer old new router) (two-names-part old new router)
+
+-- one of the two tests passes
+either : (k l m : ℕ) → (k ≤ m) ⊎ (l ≤ m) → (leb k m || leb l m) ≡ true
+either k l m (inl h) = rw (le-leb k m h)
+either k l m (inr h) = rw (le-leb l m h) (or-true (leb k m))
+
+module _ (old new : List ℕ) (router : ℕ) (r : Reading) (p : Promise old r) where
+  pub old-refused : (number place : ℕ) → r ≡ reading.Refused number place → PromisedInTwo old new router (Refused number 0 place)
+  unfolding two-names-answer naming-numbers
+  old-refused number place e =
+      let (n, q, h) = reading-refused old r number place p e in
+      (sym (table-bad 0 old number place _ _ _ n q h), h)
+
+  module _ (t : Outline) (e : r ≡ reading.Accepted t) (s : Reading) (q : Promise new s) where
+    pub new-refused : (number place : ℕ) → s ≡ reading.Refused number place → PromisedInTwo old new router (Refused number 1 place)
+    unfolding two-names-answer naming-numbers
+    new-refused number place f =
+        let (n, z, h) = reading-refused new s number place q f in
+        (sym (table-good 0 old _ _ _ (reading-accepted old r t p e .0) ∙ table-bad 1 new number place _ _ _ n z h), h)
+
+    module _ (u : Outline) (f : s ≡ reading.Accepted u) where
+      pub two-accepted : (number-of (read old) ≡ 0) × (number-of (read new) ≡ 0)
+      two-accepted = (reading-accepted old r t p e .0, reading-accepted new s u q f .0)
+
+      routers-of-old : t .routers ≡ says old .routers
+      routers-of-old = ap (λ (t : Outline). t .routers) (reading-accepted old r t p e .1)
+
+      routers-of-new : u .routers ≡ says new .routers
+      routers-of-new = ap (λ (t : Outline). t .routers) (reading-accepted new s u q f .1)
+
+      pub two-above : (t .routers ≤ router) ⊎ (u .routers ≤ router) → PromisedInTwo old new router (Refused 9 0 0)
+      unfolding two-names-answer naming-numbers
+      two-above h =
+          let above = either (says old .routers) (says new .routers) router (rw (routers-of-old, routers-of-new) at h) in (
+            sym (table-good 0 old _ _ _ (two-accepted .0) ∙ table-good 1 new _ _ _ (two-accepted .1) ∙ line-applies _ _ _ _ above (omega arith)),
+            omega arith,
+          )
+
+      pub two-found : (n : Naming) → router < t .routers → router < u .routers → n ≡ naming-of-two (name-for old router) (name-for new router)
+          → PromisedInTwo old new router n
+      unfolding two-names-answer two-names-part naming-numbers naming-of naming-of-two
+      two-found n h g z = subst (PromisedInTwo old new router) (sym z) (go (name-for old router) (name-for new router) said part)
+        where
+          below : (leb (says old .routers) router || leb (says new .routers) router) ≡ false
+          below = rw (lt-leb _ _ (rw routers-of-old at h), lt-leb _ _ (rw routers-of-new at g))
+
+          said : two-names-answer old new router ≡ answered (named (or-else (name-for new router) (name-for old router)))
+          said =
+              table-good 0 old _ _ _ (two-accepted .0) ∙ table-good 1 new _ _ _ (two-accepted .1) ∙ line-passes _ _ _ _ below ∙ no-line _ _
+
+          part : two-names-part old new router ≡ part-or 1 (name-for new router) (part-or 0 (name-for old router) (empty-part 1 new))
+          part = pick-t _ _ _ (eq-eqb _ 0 (ap (λ a. a .refusal .number) said))
+
+          go : (o p : Option Name) → two-names-answer old new router ≡ answered (named (or-else p o))
+              → two-names-part old new router ≡ part-or 1 p (part-or 0 o (empty-part 1 new)) → PromisedInTwo old new router (naming-of-two o p)
+          go o (some m) e p = (sym e, sym p)
+          go none none e p = (sym e, tt)
+          go (some m) none e p = (sym e, sym p)
+
+-- ---- the part handed back
+
+-- as many bytes from a place on as lie between it and the part's end
+pub part-sized : (bytes : List ℕ) (place size : ℕ) → take (place + size - place) (drop place bytes) ≡ take size (drop place bytes)
+part-sized bytes place size = ap (λ n. take n (drop place bytes)) {x = place + size - place} {y = size} (omega arith)
+
+-- where the answer is no name, the part is the empty one
+empty-without : (part : Part) (refusals : List (Line Refusal)) (o : Option Name) (full empty : Part) → (named o ≡ 0 → full ≡ empty)
+    → (n : Naming) → Promised (answer refusals 0 (named o)) part n → OneOf (1 ∷ 2 ∷ []) (tagOf (declared enum) n)
+    → pick (eqb (answer refusals 0 (named o) .refusal .number) 0) full empty ≡ empty
+unfolding naming-numbers
+empty-without part refusals o full empty f (Named table place size) p (inl t) = absurd (omega arith)
+empty-without part refusals o full empty f (Named table place size) p (inr t) = absurd (omega arith)
+empty-without part refusals o full empty f Unnamed (e, p) t =
+    let none : answer refusals 0 (named o) .refusal .number ≡ 0 = sym (ap (λ a. a .refusal .number) e) in
+    pick-t _ _ _ (eq-eqb _ 0 none) ∙ f (sym (gives-values refusals 0 (named o) none) ∙ sym (ap (λ a. a .values) e))
+empty-without part refusals o full empty f (Refused number table place) (e, p) t =
+    pick-f _ _ _ (ne-eqb _ 0 (λ z. p (ap (λ a. a .refusal .number) e ∙ z)))
+
+-- what holds of each name in a table and of the other part
+or-part : (P : Part → Type 0) (which : ℕ) (o : Option Name) (other : Part)
+    → ((m : Name) → o ≡ some m → P (record { table = which; place = m .place; size = length (m .bytes) })) → P other → P (part-or which o other)
+or-part P which none other f h = h
+or-part P which (some m) other f h = f m refl
+
+module _ (s : RefT (List ℕ)) (router : ℕ) (n : Naming) (p : PromisedIn (s .now) router n) where
+  pub in-empty : (r : RefT (List ℕ)) → OneOf (1 ∷ 2 ∷ []) (tagOf (declared enum) n) → PartAt s (length (s .now)) 0 r → IsPart s (name-part (s .now) router) r
+  unfolding name-answer name-part
+  in-empty r t h =
+      subst (λ part. IsPart s part r)
+      (sym (empty-without (name-part (s .now) router) _ (name-for (s .now) router) _ _ (unnamed (name-for (s .now) router)) n p t)) h
+    where
+      unnamed : (o : Option Name) → named o ≡ 0 → part-or 0 o (empty-part 0 (s .now)) ≡ empty-part 0 (s .now)
+      unnamed none e = refl
+      unnamed (some m) e = absurd (omega arith)
+
+  module _ (table place size : ℕ) (e : n ≡ Named table place size) where
+    it : PromisedIn (s .now) router (Named table place size)
+    it = subst (PromisedIn (s .now) router) e p
+
+    pub in-within : place + size ≤ length (s .now)
+    unfolding naming-numbers name-part
+    in-within =
+        let none : name-answer (s .now) router .refusal .number ≡ 0 = sym (ap (λ a. a .refusal .number) (it .0)) in
+        let accepted = answered-exactly .of-name (s .now) router .0 none .0 in
+        let Within : Part → Type 0 = λ part. part .place + part .size ≤ length (s .now) in
+        subst Within (sym (it .1 ∙ pick-t _ _ _ (eq-eqb _ 0 none)))
+        (or-part Within 0 (name-for (s .now) router) _ (named-within (s .now) accepted router) (omega arith))
+
+    pub in-part : (r : RefT (List ℕ)) → PartAt s place size r → IsPart s (name-part (s .now) router) r
+    in-part r h = subst (λ part. IsPart s part r) (it .1) h
+
+module _ (old new : RefT (List ℕ)) (router : ℕ) (n : Naming) (p : PromisedInTwo (old .now) (new .now) router n) where
+  pub two-empty : (r : RefT (List ℕ)) → OneOf (1 ∷ 2 ∷ []) (tagOf (declared enum) n) → PartAt new (length (new .now)) 0 r
+      → IsPartOfTwo old new (two-names-part (old .now) (new .now) router) r
+  unfolding two-names-answer two-names-part
+  two-empty r t h =
+      subst (λ part. IsPartOfTwo old new part r)
+      (sym (
+      empty-without (two-names-part (old .now) (new .now) router) _ (or-else (name-for (new .now) router) (name-for (old .now) router)) _ _
+      (unnamed (name-for (new .now) router) (name-for (old .now) router)) n p t
+      )) h
+    where
+      unnamed : (o p : Option Name) → named (or-else o p) ≡ 0 → part-or 1 o (part-or 0 p (empty-part 1 (new .now))) ≡ empty-part 1 (new .now)
+      unnamed none none e = refl
+      unnamed none (some m) e = absurd (omega arith)
+      unnamed (some m) p e = absurd (omega arith)
+
+  module _ (table place size : ℕ) (e : n ≡ Named table place size) (first : Bool) (q : eqb table 0 ≡ first) where
+    it-of-two : PromisedInTwo (old .now) (new .now) router (Named table place size)
+    it-of-two = subst (PromisedInTwo (old .now) (new .now) router) e p
+
+    pub two-within : place + size ≤ length (pick first (old .now) (new .now))
+    unfolding naming-numbers two-names-part
+    two-within =
+        let none : two-names-answer (old .now) (new .now) router .refusal .number ≡ 0 = sym (ap (λ a. a .refusal .number) (it-of-two .0)) in
+        let accepted = answered-exactly .of-two-names (old .now) (new .now) router .0 none in
+        let Within : Part → Type 0 = λ part. part .place + part .size ≤ length (pick (eqb (part .table) 0) (old .now) (new .now)) in
+        rw q at (
+        subst Within (sym (it-of-two .1 ∙ pick-t _ _ _ (eq-eqb _ 0 none)))
+        (or-part Within 1 (name-for (new .now) router) _ (named-within (new .now) (accepted .1) router)
+        (or-part Within 0 (name-for (old .now) router) _ (named-within (old .now) (accepted .0) router) (omega arith)))
+        )
+
+    pub two-part : (r : RefT (List ℕ)) → PartAt (pick first old new) place size r → IsPartOfTwo old new (two-names-part (old .now) (new .now) router) r
+    two-part r h = subst (λ part. IsPartOfTwo old new part r) (it-of-two .1) (rw q h)

@@ -1,0 +1,54 @@
+-- Each promise of this crate allows one answer: the companion's answers are equal, and the parts handed back are the same, the ghost name aside.
+-- Assumes nothing.
+use mathlib.Core.Path.{refl, sym, _∙_, ap}
+use mathlib.Core.List.{List}
+use Prim.Native.Nat.{ℕ}
+use native.Mathlib.Omega.{arith}
+use denote.Ref.{RefT}
+use Rattle.rules.specs.Names.{Part}
+use Rattle.rules.specs.Questions.{Answer, name-part, two-names-part}
+use Rattle.rules.specs.Promises.{Settles}
+use Rattle.names.specs.Namings.{naming-numbers}
+use Rattle.names.specs.Parts.{PartAt, IsPart, IsPartOfTwo, SamePart}
+use Rattle.names.specs.declared.Naming.the-variants.{Named, Unnamed, Refused}
+use Rattle.names.proofs.Namings.{Promised, PromisedIn, PromisedInTwo}
+
+-- ---- the companion's answer
+
+-- the numbers tell named, unnamed and refused apart, and the part settles a name
+pub naming-settled : (said : Answer ℕ) (part : Part) → Settles (Promised said part)
+unfolding naming-numbers
+naming-settled said part (Named table place size) (Named table′ place′ size′) (e, p) (f, q) =
+    ap (λ (part : Part). Named (part .table) (part .place) (part .size)) (p ∙ sym q)
+naming-settled said part (Named table place size) Unnamed (e, p) (f, q) = absurd (omega (arith, ap (λ a. a .values) (e ∙ sym f)))
+naming-settled said part (Named table place size) (Refused number at′ place′) (e, p) (f, q) = absurd (q (ap (λ a. a .refusal .number) (f ∙ sym e)))
+naming-settled said part Unnamed (Named table place size) (e, p) (f, q) = absurd (omega (arith, ap (λ a. a .values) (e ∙ sym f)))
+naming-settled said part Unnamed Unnamed (e, p) (f, q) = refl
+naming-settled said part Unnamed (Refused number table place) (e, p) (f, q) = absurd (q (ap (λ a. a .refusal .number) (f ∙ sym e)))
+naming-settled said part (Refused number at place) (Named table place′ size) (e, p) (f, q) = absurd (p (ap (λ a. a .refusal .number) (e ∙ sym f)))
+naming-settled said part (Refused number table place) Unnamed (e, p) (f, q) = absurd (p (ap (λ a. a .refusal .number) (e ∙ sym f)))
+naming-settled said part (Refused number table place) (Refused number′ table′ place′) (e, p) (f, q) =
+    ap (λ (a : Answer ℕ). Refused (a .refusal .number) (a .refusal .table) (a .refusal .place)) (e ∙ sym f)
+
+pub naming-in-settled : (table : List ℕ) (router : ℕ) → Settles (PromisedIn table router)
+naming-in-settled table router = naming-settled _ _
+
+pub naming-in-two-settled : (old new : List ℕ) (router : ℕ) → Settles (PromisedInTwo old new router)
+naming-in-two-settled old new router = naming-settled _ _
+
+-- ---- the part handed back
+
+part-settled : (s : RefT (List ℕ)) (place size : ℕ) (r t : RefT (List ℕ)) → PartAt s place size r → PartAt s place size t → SamePart r t
+part-settled s place size r t p q = record {
+  same-bytes = p .bytes ∙ sym (q .bytes);
+  same-block = p .block ∙ sym (q .block);
+  same-offset = p .offset ∙ sym (q .offset);
+}
+
+pub name-in-settled : (table : RefT (List ℕ)) (router : ℕ) (r t : RefT (List ℕ))
+    → IsPart table (name-part (table .now) router) r → IsPart table (name-part (table .now) router) t → SamePart r t
+name-in-settled table router r t = part-settled _ _ _ r t
+
+pub name-settled : (old new : RefT (List ℕ)) (router : ℕ) (r t : RefT (List ℕ))
+    → IsPartOfTwo old new (two-names-part (old .now) (new .now) router) r → IsPartOfTwo old new (two-names-part (old .now) (new .now) router) t → SamePart r t
+name-settled old new router r t = part-settled _ _ _ r t

@@ -1,0 +1,2 @@
+pub mod Namings
+pub mod Parts

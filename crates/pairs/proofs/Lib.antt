@@ -1,0 +1,4 @@
+pub mod Merge
+pub mod Fronts
+pub mod Answers
+pub mod Settled

@@ -1,0 +1,16 @@
+-- `pairs::changed` meets its contract: 1 for two weights that differ, 0 for one weight: one test, as in the definition.
+-- Assumes nothing.
+use Rattle.rules.proofs.Basics.{pick-t, pick-f}
+use borrow.Author.Tests.{eq-eqb, ne-eqb}
+use mathlib.Core.Path.{sym}
+use Rattle.pairs.proofs.changed.Statement.{statement}
+use Rattle.pairs.proofs.changed.Tie as tie
+
+returns : tie.Need-returns
+returns c = sym (pick-t _ _ _ (eq-eqb _ _ (c .if1 .taken)))
+
+returns-2 : tie.Need-returns-2
+returns-2 c = sym (pick-f _ _ _ (ne-eqb _ _ (c .if1 .left)))
+
+pub changed-spec : {M : Type 1} → statement M
+changed-spec = tie.close (tie.spec returns returns-2)

@@ -1,0 +1,151 @@
+// Two tables together: how many links differ, and number 8.
+ghost use mathlib.Core.Path.{_≡_};
+ghost use Rattle.rules.specs.Table.{read, number-of, says};
+ghost use Rattle.rules.specs.Pairs.{differing};
+ghost use Rattle.rules.specs.Questions.{pair-answer};
+ghost use Rattle.tables.specs.Readings.{links-start, outline-of};
+ghost use Rattle.pairs.specs.Fronts.{front-at, differ-by};
+ghost use Rattle.pairs.specs.Pairings.{pairing-numbers, Paired};
+use links::NextLink;
+use links::link_at;
+use tables::Outline;
+use tables::Reading;
+use tables::read;
+
+// The answer: how many links differ, 0 or 1, and what each table holds; or a number, which table (0 the old, 1 the new) and a place.
+pub enum Pairing {
+    Accepted {
+        differ: u8,
+        old: Outline,
+        new: Outline,
+    },
+    Refused {
+        number: u8,
+        table: u8,
+        place: usize,
+    },
+}
+
+// Above every pair of a link: there is none.
+const NO_PAIR: u32 = 65536;
+
+// The link in front of those that are not compared yet: its pair as one number, its weight, and the place behind it.
+struct Front {
+    pair: u32,
+    weight: u16,
+    behind: usize,
+}
+
+fn front_at(table: &[u8], place: usize) -> Front
+    ensures { λ r. ⌜ r ≡ front-at (now (table .entry)) place ⌝ }
+{
+    let next = link_at(table, place);
+    match next {
+        NextLink::One {
+            a,
+            b,
+            weight,
+            behind,
+        } => Front {
+            pair: (a as u32) * 256 + (b as u32),
+            weight,
+            behind,
+        },
+        NextLink::NoMore => Front {
+            pair: NO_PAIR,
+            weight: 0,
+            behind: place,
+        },
+    }
+}
+
+// 1 for two weights that differ, 0 for one weight.
+fn changed(old: u16, new: u16) -> u16
+    ensures { λ r. ⌜ r ≡ differ-by old new ⌝ }
+{
+    if old == new {
+        return 0;
+    }
+    1
+}
+
+// How many links differ. The links start at i in the old table and at k in the new, and both rise: of two pairs in front the lower is in one table only.
+fn count_differing(old: &[u8], i: usize, new: &[u8], k: usize) -> u16
+    requires { ⌜ (number-of (read (now old)) ≡ 0) × (number-of (read (now new)) ≡ 0)
+        × (i ≡ links-start (now old)) × (k ≡ links-start (now new)) ⌝ }
+    ensures { λ r. ⌜ r ≡ differing (says (now (old .entry))) (says (now (new .entry))) ⌝ }
+{
+    let mut o = front_at(old, i);
+    let mut n = front_at(new, k);
+    let mut count = 0;
+    loop {
+        if o.pair < n.pair {
+            count += 1;
+            o = front_at(old, o.behind);
+            continue;
+        }
+        if n.pair < o.pair {
+            count += 1;
+            n = front_at(new, n.behind);
+            continue;
+        }
+        if o.pair == NO_PAIR {
+            return count;
+        }
+        count += changed(o.weight, n.weight);
+        o = front_at(old, o.behind);
+        n = front_at(new, n.behind);
+    }
+}
+
+// Two tables that are accepted, with what each holds: 8 for different N, or for more than one link that differs.
+fn compare(old: &[u8], o: Outline, new: &[u8], n: Outline) -> Pairing
+    requires { ⌜ (number-of (read (now old)) ≡ 0) × (number-of (read (now new)) ≡ 0) × (o ≡ outline-of (now old)) × (n ≡ outline-of (now new)) ⌝ }
+    ensures { λ r. ⌜ (pairing-numbers r ≡ pair-answer (now (old .entry)) (now (new .entry))) × Paired (now (old .entry)) (now (new .entry)) r ⌝ }
+{
+    if o.routers != n.routers {
+        return Pairing::Refused {
+            number: 8,
+            table: 0,
+            place: 0,
+        };
+    }
+    let differ = count_differing(old, o.start, new, n.start);
+    if 1 < differ {
+        return Pairing::Refused {
+            number: 8,
+            table: 0,
+            place: 0,
+        };
+    }
+    Pairing::Accepted {
+        differ: differ as u8,
+        old: o,
+        new: n,
+    }
+}
+
+// Two tables together: each is read, the old one first, and then they are compared.
+pub fn pair(old: &[u8], new: &[u8]) -> Pairing
+    ensures { λ r. ⌜ (pairing-numbers r ≡ pair-answer (now (old .entry)) (now (new .entry))) × Paired (now (old .entry)) (now (new .entry)) r ⌝ }
+{
+    let first = read(old);
+    match first {
+        Reading::Accepted(o) => {
+            let second = read(new);
+            match second {
+                Reading::Accepted(n) => compare(old, o, new, n),
+                Reading::Refused { number, place } => Pairing::Refused {
+                    number,
+                    table: 1,
+                    place,
+                },
+            }
+        }
+        Reading::Refused { number, place } => Pairing::Refused {
+            number,
+            table: 0,
+            place,
+        },
+    }
+}
