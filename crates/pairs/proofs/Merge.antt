@@ -2,8 +2,7 @@
 -- differ by their weights.
 -- Assumes nothing.
 use mathlib.Core.Path.{_≡_, refl, sym, ap}
-use mathlib.Core.Logic.{_≢_, inl, inr}
-use mathlib.Core.Bool.{Bool, true, false, not}
+use mathlib.Core.Bool.{not}
 use mathlib.Core.List.{List, [], _∷_, map}
 use Prim.Native.Nat.{ℕ, _+_, _≤_, _<_}
 use native.Mathlib.Decide.{ℕ-discrete}
@@ -13,11 +12,10 @@ use lib.ListN.{length}
 use borrow.Author.Tests.{eq-eqb, ne-eqb}
 use Rattle.rules.specs.Words.{pick, tally, All, Rising}
 use Rattle.rules.specs.Layout.{Link, Table, LinkFits, pair-number, Obeys}
-use Rattle.rules.specs.Links.{joins, weight-in}
+use Rattle.rules.specs.Links.{weight-in}
 use Rattle.rules.specs.Pairs.{differing}
-use Rattle.rules.specs.Demand1.{SameEnds}
-use Rattle.rules.proofs.Basics.{All-map, All-zip}
-use Rattle.rules.proofs.Weights.{ends-of}
+use Rattle.rules.proofs.Basics.{All-map, All-zip, All-unmap, tally-same, tally-at-most}
+use Rattle.rules.proofs.Weights.{other}
 use Rattle.pairs.specs.Fronts.{differ-by}
 
 -- ---- links in rising order
@@ -34,10 +32,6 @@ Ordered (l ∷ ls) = LinkFits 64 l × Above (pair-number l) ls × Ordered ls
 pub ordered : (t : Table) → Obeys t → Ordered (t .links)
 ordered t o = go (t .links) (o .links-fit) (o .links-rise)
   where
-    above : (k : ℕ) (ls : List Link) → All (λ x. k < x) (map pair-number ls) → Above k ls
-    above k [] h = tt
-    above k (l ∷ ls) h = (h .0, above k ls (h .1))
-
     wide : (l : Link) → LinkFits (t .routers) l → LinkFits 64 l
     wide l f = record {
       ends-rise = f .ends-rise;
@@ -48,7 +42,7 @@ ordered t o = go (t .links) (o .links-fit) (o .links-rise)
 
     go : (ls : List Link) → All (LinkFits (t .routers)) ls → Rising (map pair-number ls) → Ordered ls
     go [] f r = tt
-    go (l ∷ ls) f r = (wide l (f .0), above (pair-number l) ls (r .0), go ls (f .1) (r .1))
+    go (l ∷ ls) f r = (wide l (f .0), All-unmap (λ x. pair-number l < x) pair-number ls (r .0), go ls (f .1) (r .1))
 
 all-fit : (ls : List Link) → Ordered ls → All (LinkFits 64) ls
 all-fit [] o = tt
@@ -60,18 +54,6 @@ below-all k l ls o h = (h, All-map (λ m g. omega arith) ls (o .1))
 
 -- ---- the weight at the ends of another link
 
--- links of different pairs have different ends
-apart-ends : (l m : Link) → LinkFits 64 l → LinkFits 64 m → pair-number l ≢ pair-number m → joins l (m .a) (m .b) ≡ false
-apart-ends l m f g h = go (joins l (m .a) (m .b)) refl
-  where
-    clash : SameEnds (l .a) (l .b) (m .a) (m .b) → ⊥
-    clash (inl s) = h (omega arith)
-    clash (inr s) = omega arith
-
-    go : (t : Bool) → joins l (m .a) (m .b) ≡ t → t ≡ false
-    go true e = absurd (clash (ends-of l (m .a) (m .b) e))
-    go false e = refl
-
 -- a link of a lower pair adds nothing at the ends of the others
 passed : (l : Link) (ls ms : List Link) → LinkFits 64 l → Ordered ms → Above (pair-number l) ms
     → All (λ m. weight-in (l ∷ ls) (m .a) (m .b) ≡ weight-in ls (m .a) (m .b)) ms
@@ -79,13 +61,13 @@ unfolding weight-in
 passed l ls ms f o h = All-zip one ms (all-fit ms o) h
   where
     one : (m : Link) → LinkFits 64 m → pair-number l < pair-number m → weight-in (l ∷ ls) (m .a) (m .b) ≡ weight-in ls (m .a) (m .b)
-    one m g k = rw (apart-ends l m f g (omega arith))
+    one m g k = rw (other 64 l m f g (omega arith))
 
 -- nor do they at its own ends
 missing : (l : Link) (ms : List Link) → LinkFits 64 l → Ordered ms → Above (pair-number l) ms → weight-in ms (l .a) (l .b) ≡ 0
 unfolding weight-in
 missing l [] f o h = refl
-missing l (m ∷ ms) f o h = rw (apart-ends m l (o .0) f (omega arith)) (missing l ms f (o .2) (h .1))
+missing l (m ∷ ms) f o h = rw (other 64 m l (o .0) f (omega arith)) (missing l ms f (o .2) (h .1))
 
 -- the weight at the ends of the first link, by its pair
 present : (l m : Link) (ms : List Link) → LinkFits 64 l → LinkFits 64 m → pair-number l ≡ pair-number m → weight-in (m ∷ ms) (l .a) (l .b) ≡ m .weight
@@ -93,20 +75,6 @@ unfolding weight-in
 present l m ms f g e = rw (eq-eqb (m .a) (l .a) (omega arith), eq-eqb (m .b) (l .b) (omega arith))
 
 -- ---- how many differ
-
-tally-same : {A : Type 0} (p q : A → Bool) (xs : List A) → All (λ x. p x ≡ q x) xs → tally p xs ≡ tally q xs
-unfolding tally
-tally-same p q [] h = refl
-tally-same p q (x ∷ xs) h = rw (h .0, tally-same p q xs (h .1))
-
-tally-at-most : {A : Type 0} (p : A → Bool) (xs : List A) → tally p xs ≤ length xs
-unfolding tally
-tally-at-most p [] = omega arith
-tally-at-most p (x ∷ xs) = go (p x) (tally-at-most p xs)
-  where
-    go : (t : Bool) → tally p xs ≤ length xs → pick t 1 0 + tally p xs ≤ length (x ∷ xs)
-    go true h = omega arith
-    go false h = omega arith
 
 -- the two counts of `differing`, over lists of links
 changed : List Link → List Link → ℕ

@@ -13,7 +13,7 @@ use lib.Dec.{eqb, ltb}
 use lib.ListN.{length, getD, take, drop, length-append, length-map, List·getD-append}
 use lib.Seq.{getD-at, take-nil}
 use borrow.Author.Tests.{ltb-true, lt-ltb, le-ltb, eq-eqb, ne-eqb}
-use Rattle.rules.specs.Words.{pick, every, those, below, All, Distinct}
+use Rattle.rules.specs.Words.{pick, every, those, tally, below, All, Distinct}
 
 -- ---- tests
 
@@ -109,9 +109,29 @@ module _ {A : Type 0} where
   All-zip f [] g h = tt
   All-zip f (x ∷ xs) g h = (f x (g .0) (h .0), All-zip f xs (g .1) (h .1))
 
+  -- of the values of a function at every element
+  pub All-unmap : {B : Type 0} (P : B → Type 0) (f : A → B) (xs : List A) → All P (map f xs) → All (λ x. P (f x)) xs
+  All-unmap P f [] h = tt
+  All-unmap P f (x ∷ xs) h = (h .0, All-unmap P f xs (h .1))
+
   pub All-append : (P : A → Type 0) (xs ys : List A) → All P xs → All P ys → All P (xs ++ ys)
   All-append P [] ys g h = h
   All-append P (x ∷ xs) ys g h = (g .0, All-append P xs ys (g .1) h)
+
+  -- tests that agree on every element count as many, and none counts more than there are
+  pub tally-same : (p q : A → Bool) (xs : List A) → All (λ x. p x ≡ q x) xs → tally p xs ≡ tally q xs
+  unfolding tally
+  tally-same p q [] h = refl
+  tally-same p q (x ∷ xs) h = rw (h .0, tally-same p q xs (h .1))
+
+  pub tally-at-most : (p : A → Bool) (xs : List A) → tally p xs ≤ length xs
+  unfolding tally
+  tally-at-most p [] = omega arith
+  tally-at-most p (x ∷ xs) = go (p x) (tally-at-most p xs)
+    where
+      go : (t : Bool) → tally p xs ≤ length xs → pick t 1 0 + tally p xs ≤ length (x ∷ xs)
+      go true h = omega arith
+      go false h = omega arith
 
   pub those-append : (p : A → Bool) (xs ys : List A) → those p (xs ++ ys) ≡ those p xs ++ those p ys
   unfolding those

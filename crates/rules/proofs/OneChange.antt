@@ -117,7 +117,7 @@ module _ {t : Table} (o : Obeys t) (l : Link) (m : List·Memᴰ l (t .links)) wh
 
   own-weight : weight t (l .a) (l .b) ≡ l .weight
   own-weight =
-      of-listed (λ l. weight t (l .a) (l .b) ≡ l .weight) (t .links) (own (t .routers) (o .few-routers) (t .links) (o .links-fit) (o .links-rise)) l m
+      of-listed (λ l. weight t (l .a) (l .b) ≡ l .weight) (t .links) (own (t .routers) (t .links) (o .links-fit) (o .links-rise)) l m
 
 -- ---- the links that differ
 

@@ -3,7 +3,7 @@
 use mathlib.Core.Path.{_≡_, refl}
 use mathlib.Core.List.{List, [], _∷_, map}
 use mathlib.Core.Bool.{Bool, true, false, _&&_, _||_, or-comm, false≢true}
-use mathlib.Core.Logic.{_⊎_, inl, inr}
+use mathlib.Core.Logic.{_≢_, _⊎_, inl, inr}
 use Prim.Native.Nat.{ℕ, _≤_, _<_}
 use native.Mathlib.Omega.{arith}
 use lib.Dec.{eqb}
@@ -12,7 +12,7 @@ use Rattle.rules.specs.Words.{pick, All, Rising}
 use Rattle.rules.specs.Layout.{Link, Table, LinkFits, pair-number, Obeys}
 use Rattle.rules.specs.Links.{joins, weight-in, weight}
 use Rattle.rules.specs.Demand1.{SameEnds}
-use Rattle.rules.proofs.Basics.{All-zip}
+use Rattle.rules.proofs.Basics.{All-unmap, All-zip}
 use Rattle.rules.proofs.CostLaws.{Net, BothWays}
 
 either-both : (s t u v : Bool) → ((s && t) || (u && v)) ≡ true → ((s ≡ true) × (t ≡ true)) ⊎ ((u ≡ true) × (v ≡ true))
@@ -57,12 +57,12 @@ module _ (n : ℕ) where
       go true e ih p = far (ends-of l i k e)
       go false e ih p = ih p
 
-  -- a link with a higher pair is another link
-  other : (l m : Link) → LinkFits n l → LinkFits n m → n ≤ 64 → pair-number l < pair-number m → joins l (m .a) (m .b) ≡ false
-  other l m f g few h = go (joins l (m .a) (m .b)) refl
+  -- links of different pairs have different ends
+  pub other : (l m : Link) → LinkFits n l → LinkFits n m → pair-number l ≢ pair-number m → joins l (m .a) (m .b) ≡ false
+  other l m f g h = go (joins l (m .a) (m .b)) refl
     where
       clash : SameEnds (l .a) (l .b) (m .a) (m .b) → ⊥
-      clash (inl s) = omega arith
+      clash (inl s) = h (omega arith)
       clash (inr s) = omega arith
 
       go : (t : Bool) → joins l (m .a) (m .b) ≡ t → t ≡ false
@@ -70,18 +70,14 @@ module _ (n : ℕ) where
       go false e = refl
 
   -- each link of a table has its own weight
-  pub own : n ≤ 64 → (ls : List Link) → All (LinkFits n) ls → Rising (map pair-number ls) → All (λ m. weight-in ls (m .a) (m .b) ≡ m .weight) ls
+  pub own : (ls : List Link) → All (LinkFits n) ls → Rising (map pair-number ls) → All (λ m. weight-in ls (m .a) (m .b) ≡ m .weight) ls
   unfolding weight-in
-  own few [] f r = tt
-  own few (l ∷ ls) f r = (
+  own [] f r = tt
+  own (l ∷ ls) f r = (
     rw (eq-eqb (l .a) (l .a) refl, eq-eqb (l .b) (l .b) refl),
-    All-zip later ls (All-zip (λ m g h. other l m (f .0) g few h) ls (f .1) (apart ls (r .0))) (own few ls (f .1) (r .1)),
+    All-zip later ls (All-zip (λ m g (h : pair-number l < pair-number m). other l m (f .0) g (omega arith)) ls (f .1) (All-unmap (λ x. pair-number l < x) pair-number ls (r .0))) (own ls (f .1) (r .1)),
   )
     where
-      apart : (ms : List Link) → All (λ x. pair-number l < x) (map pair-number ms) → All (λ m. pair-number l < pair-number m) ms
-      apart [] h = tt
-      apart (m ∷ ms) h = (h .0, apart ms (h .1))
-
       later : (m : Link) → joins l (m .a) (m .b) ≡ false → weight-in ls (m .a) (m .b) ≡ m .weight
           → pick (joins l (m .a) (m .b)) (l .weight) (weight-in ls (m .a) (m .b)) ≡ m .weight
       later m g h = rw g h
