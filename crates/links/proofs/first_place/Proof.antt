@@ -1,9 +1,9 @@
 -- `links::first_place` meets its contract, by what the reading question tells of the bytes.
 -- Assumes nothing.
 use mathlib.Core.Path.{sym, _∙_, ap}
+use borrow.Author.Needs.{needs}
 use Rattle.tables.proofs.Asked.{reading-accepted, reading-refused}
 use Rattle.links.proofs.Stand.{start-of-accepted, start-of-refused}
-use borrow.Author.Needs.{needs}
 use Rattle.links.proofs.first_place.Statement.{statement}
 use Rattle.links.proofs.first_place.Tie as tie
 

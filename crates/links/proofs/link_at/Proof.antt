@@ -1,9 +1,9 @@
 -- `links::link_at` meets its contract.
 -- Assumes nothing.
-use Rattle.links.proofs.Place.{there, cut, other, tells-none, tells-one}
 use mathlib.Core.Path.{refl}
 use native.Mathlib.Omega.{arith}
 use borrow.Author.Needs.{needs}
+use Rattle.links.proofs.Place.{there, cut, other, tells-none, tells-one}
 use Rattle.links.proofs.link_at.Statement.{statement}
 use Rattle.links.proofs.link_at.Tie as tie
 

@@ -1,8 +1,8 @@
 -- `links::link_by_number` meets its contract: behind the end of the table no link stands.
 -- Assumes nothing.
-use Rattle.links.proofs.Place.{cut, tells-none}
 use native.Mathlib.Omega.{arith}
 use borrow.Author.Needs.{needs}
+use Rattle.links.proofs.Place.{cut, tells-none}
 use Rattle.links.proofs.link_by_number.Statement.{statement}
 use Rattle.links.proofs.link_by_number.Tie as tie
 

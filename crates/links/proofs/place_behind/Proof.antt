@@ -1,8 +1,8 @@
 -- `links::place_behind` meets its contract.
 -- Assumes nothing.
-use Rattle.links.specs.Links.{place-in}
 use mathlib.Core.Path.{sym, ap}
 use borrow.Author.Needs.{needs}
+use Rattle.links.specs.Links.{place-in}
 use Rattle.links.proofs.place_behind.Statement.{statement}
 use Rattle.links.proofs.place_behind.Tie as tie
 

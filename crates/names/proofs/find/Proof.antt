@@ -1,3 +1,5 @@
+-- `names::find` meets its contract. The loop keeps the names that are left, among which the router's stands if it has one.
+-- Assumes nothing.
 use mathlib.Core.Path.{refl}
 use Prim.Native.Nat.{_+_, _-_}
 use native.Mathlib.Omega.{arith}

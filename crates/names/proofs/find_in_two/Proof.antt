@@ -1,5 +1,7 @@
-use Rattle.names.proofs.Namings.{first-named, then-old}
+-- `names::find_in_two` meets its contract.
+-- Assumes nothing.
 use borrow.Author.Needs.{needs}
+use Rattle.names.proofs.Namings.{first-named, then-old}
 use Rattle.names.proofs.find_in_two.Statement.{statement}
 use Rattle.names.proofs.find_in_two.Tie as tie
 

@@ -1,7 +1,9 @@
+-- `names::name` meets its contract.
+-- Assumes nothing.
 use mathlib.Core.Bool.{true, false}
 use borrow.Author.Tests.{eq-eqb, ne-eqb}
-use Rattle.names.proofs.Namings.{two-empty, two-within, two-part}
 use borrow.Author.Needs.{needs}
+use Rattle.names.proofs.Namings.{two-empty, two-within, two-part}
 use Rattle.names.proofs.name.Statement.{statement}
 use Rattle.names.proofs.name.Tie as tie
 

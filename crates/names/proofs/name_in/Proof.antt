@@ -1,5 +1,7 @@
-use Rattle.names.proofs.Namings.{in-empty, in-within, in-part}
+-- `names::name_in` meets its contract.
+-- Assumes nothing.
 use borrow.Author.Needs.{needs}
+use Rattle.names.proofs.Namings.{in-empty, in-within, in-part}
 use Rattle.names.proofs.name_in.Statement.{statement}
 use Rattle.names.proofs.name_in.Tie as tie
 

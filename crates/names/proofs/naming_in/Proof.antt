@@ -1,6 +1,8 @@
+-- `names::naming_in` meets its contract.
+-- Assumes nothing.
+use borrow.Author.Needs.{needs}
 use Rattle.tables.proofs.Asked.{reading-accepted}
 use Rattle.names.proofs.Namings.{in-refused, in-above, in-found}
-use borrow.Author.Needs.{needs}
 use Rattle.names.proofs.naming_in.Statement.{statement}
 use Rattle.names.proofs.naming_in.Tie as tie
 

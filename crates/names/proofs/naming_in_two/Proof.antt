@@ -1,6 +1,8 @@
+-- `names::naming_in_two` meets its contract.
+-- Assumes nothing.
 use mathlib.Core.Logic.{inl, inr}
-use Rattle.names.proofs.Namings.{old-refused, new-refused, two-accepted, two-above, two-found}
 use borrow.Author.Needs.{needs}
+use Rattle.names.proofs.Namings.{old-refused, new-refused, two-accepted, two-above, two-found}
 use Rattle.names.proofs.naming_in_two.Statement.{statement}
 use Rattle.names.proofs.naming_in_two.Tie as tie
 

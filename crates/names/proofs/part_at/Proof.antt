@@ -1,7 +1,9 @@
+-- `names::part_at` meets its contract.
+-- Assumes nothing.
 use mathlib.Core.Path.{refl}
-use Rattle.names.proofs.Namings.{part-sized}
 use native.Mathlib.Omega.{arith}
 use borrow.Author.Needs.{needs}
+use Rattle.names.proofs.Namings.{part-sized}
 use Rattle.names.proofs.part_at.Statement.{statement}
 use Rattle.names.proofs.part_at.Tie as tie
 

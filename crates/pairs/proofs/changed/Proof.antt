@@ -1,8 +1,8 @@
 -- `pairs::changed` meets its contract: 1 for two weights that differ, 0 for one weight: one test, as in the definition.
 -- Assumes nothing.
-use Rattle.rules.proofs.Basics.{pick-t, pick-f}
-use borrow.Author.Tests.{eq-eqb, ne-eqb}
 use mathlib.Core.Path.{sym}
+use borrow.Author.Tests.{eq-eqb, ne-eqb}
+use Rattle.rules.proofs.Basics.{pick-t, pick-f}
 use Rattle.pairs.proofs.changed.Statement.{statement}
 use Rattle.pairs.proofs.changed.Tie as tie
 

@@ -1,7 +1,7 @@
 -- `pairs::front_at` meets its contract: what the link reader tells, in front.
 -- Assumes nothing.
-use Rattle.pairs.proofs.Fronts.{front-one, front-none}
 use borrow.Author.Needs.{needs}
+use Rattle.pairs.proofs.Fronts.{front-one, front-none}
 use Rattle.pairs.proofs.front_at.Statement.{statement}
 use Rattle.pairs.proofs.front_at.Tie as tie
 

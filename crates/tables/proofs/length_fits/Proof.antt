@@ -1,30 +1,24 @@
+-- `tables::length_fits` meets its contract.
+-- Assumes nothing.
 use Rattle.tables.proofs.Tests.{length-link, length-short, length-name, length-routers, length-end, length-none}
 use Rattle.tables.proofs.length_fits.Statement.{statement}
 use Rattle.tables.proofs.length_fits.Tie as tie
-use Rattle.tables.proofs.length_fits.Reads as reads
-use Rattle.tables.proofs.length_fits.Lts as lts
 
--- src/lib.rt:81:9
 returns : tie.Need-returns
 returns c = length-link _ _ (c .if1 .taken)
 
--- src/lib.rt:85:13
 returns-2 : tie.Need-returns-2
 returns-2 c = length-short _ _ (c .before .if2 .taken) (c .if3 .taken)
 
--- src/lib.rt:87:9
 returns-3 : tie.Need-returns-3
 returns-3 c = length-name _ _ (c .before .if2 .taken) (c .if3 .left)
 
--- src/lib.rt:90:9
 returns-4 : tie.Need-returns-4
 returns-4 c = length-routers _ _ (c .if4 .taken)
 
--- src/lib.rt:93:9
 returns-5 : tie.Need-returns-5
 returns-5 c = length-end _ _ (c .if5 .taken)
 
--- src/lib.rt:77:1
 returns-6 : tie.Need-returns-6
 returns-6 c = length-none _ _ (c .before .before .before .if1 .left) (c .before .before .if2 .left) (c .before .if4 .left) (c .if5 .left)
 

@@ -1,52 +1,51 @@
-use native.Mathlib.Omega.{arith}
+-- `tables::read` meets its contract. From what judging tells: where the table ends, the links before it, and 7 behind it.
+-- Assumes nothing.
 use mathlib.Core.Path.{sym, _∙_}
-use Rattle.tables.proofs.Asked.{accepted-told, refused-told}
+use native.Mathlib.Omega.{arith}
 use borrow.Author.Needs.{needs}
+use Rattle.tables.proofs.Asked.{Ended, accepted-told, refused-told}
 use Rattle.tables.proofs.read.Statement.{statement}
 use Rattle.tables.proofs.read.Tie as tie
 use Rattle.tables.proofs.read.Reads as reads
 use Rattle.tables.proofs.read.Lts as lts
 use Rattle.tables.proofs.judge.Reads as judge-reads
 
--- src/lib.rt:314:9
+-- where judging accepted, and what the table's end tells
+abbrev Judged : Type 0
+Judged = lts.After-judged (judge-reads.Asked, judge-reads.Learnt) reads.Pre reads.Post
+
+end : (m : Judged) → Ended (m .before .before .before .before .args .table .now) (m .judged .given .0 .0) (m .judged .given .0 .1 .0) (m .judged .given .0 .1 .1 .0)
+end m = accepted-told _ _ _ _ (sym (m .before .before .judge .ensures) ∙ m .judged .given .1)
+
 judge-requires : tie.Need-judge-requires
 judge-requires c κs = search needs
 
--- src/lib.rt:317:13
 enum-known-judged : tie.Need-enum-known-judged
 enum-known-judged c = search needs
 
--- src/lib.rt:322:17
 returns : tie.Need-returns
-returns c = (accepted-told (c .before .before .before .before .before .before .args .table .now) _ _ _ (sym (c .before .before .before .before .judge .ensures) ∙ c .before .before .judged .given .1)) .behind (c .if1 .taken)
+returns c = end (c .before .before) .behind (c .if1 .taken)
 
--- src/lib.rt:330:24
 sub-t9 : tie.Need-sub-t9
-sub-t9 c = (let b = (accepted-told (c .before .before .before .before .before .before .args .table .now) _ _ _ (sym (c .before .before .before .before .judge .ensures) ∙ c .before .before .judged .given .1)) .room in omega arith)
+sub-t9 c = omega (arith, end (c .before .before) .room)
 
--- src/lib.rt:330:35
 cast-t11 : tie.Need-cast-t11
 cast-t11 c = search needs
 
--- src/lib.rt:330:34
 mul-t12 : tie.Need-mul-t12
 mul-t12 c = search needs
 
--- src/lib.rt:330:24
 sub-t13 : tie.Need-sub-t13
-sub-t13 c = (let b = (accepted-told (c .before .before .before .before .before .before .args .table .now) _ _ _ (sym (c .before .before .before .before .judge .ensures) ∙ c .before .before .judged .given .1)) .room in omega arith)
+sub-t13 c = omega (arith, end (c .before .before) .room)
 
--- src/lib.rt:333:27
 enum-known-judged-2 : tie.Need-enum-known-judged-2
 enum-known-judged-2 c = search needs
 
--- src/lib.rt:311:1
 returns-2 : tie.Need-returns-2
-returns-2 c = (accepted-told (c .before .before .before .before .before .before .args .table .now) _ _ _ (sym (c .before .before .before .before .judge .ensures) ∙ c .before .before .judged .given .1)) .whole (c .if1 .left)
+returns-2 c = end (c .before .before) .whole (c .if1 .left)
 
--- src/lib.rt:311:1
 returns-3 : tie.Need-returns-3
-returns-3 c = refused-told (c .before .before .before .before .before .args .table .now) _ _ (sym (c .before .before .before .judge .ensures) ∙ c .before .judged2 .given .1)
+returns-3 c = let m = c .before in refused-told (m .before .before .before .before .args .table .now) _ _ (sym (m .before .before .judge .ensures) ∙ m .judged2 .given .1)
 
 pub read-spec : {M : Type 1} → statement M
 read-spec =

@@ -1,31 +1,26 @@
-use Rattle.rules.specs.Table.{known-tag}
-use native.Mathlib.Omega.{arith}
+-- `tables::tag_is_bad` meets its contract.
+-- Assumes nothing.
 use mathlib.Core.Path.{ap}
+use native.Mathlib.Omega.{arith}
+use Rattle.rules.specs.Table.{known-tag}
 use Rattle.tables.proofs.Tests.{tag-first, tag-below, tag-in-order, tag-last}
 use Rattle.tables.proofs.tag_is_bad.Statement.{statement}
 use Rattle.tables.proofs.tag_is_bad.Tie as tie
-use Rattle.tables.proofs.tag_is_bad.Reads as reads
-use Rattle.tables.proofs.tag_is_bad.Lts as lts
 
--- src/lib.rt:63:9
 returns : tie.Need-returns
 returns c = tag-first _ _ (c .if1 .taken)
 
--- src/lib.rt:66:9
 returns-2 : tie.Need-returns-2
 returns-2 c = tag-below _ _ (c .before .before .if1 .left) (c .if2 .taken)
 
--- src/lib.rt:69:9
 returns-3 : tie.Need-returns-3
 unfolding known-tag
 returns-3 c = tag-in-order _ _ (c .before .before .before .if1 .left) (c .before .if2 .left) (ap known-tag (c .if3 .taken)) (omega arith)
 
--- src/lib.rt:72:9
 returns-4 : tie.Need-returns-4
 unfolding known-tag
 returns-4 c = tag-in-order _ _ (c .before .before .before .before .if1 .left) (c .before .before .if2 .left) (ap known-tag (c .if4 .taken)) (omega arith)
 
--- src/lib.rt:59:1
 returns-5 : tie.Need-returns-5
 returns-5 c = tag-last _ _ (c .before .before .before .before .if1 .left) (c .before .before .if2 .left) (c .before .if3 .left) (c .if4 .left)
 
