@@ -17,10 +17,16 @@ enum-known-reading-2 : tie.Need-enum-known-reading-2
 enum-known-reading-2 c = search needs
 
 returns : tie.Need-returns
-returns c = let (e, t) = reading-accepted _ _ _ (c .before .before .before .read .ensures) (c .before .reading .given .1) in ap (λ o. o .start) t ∙ sym (start-of-accepted (c .before .before .before .before .before .args .table .now) e)
+returns c =
+    let m = c .before in
+    let (e, t) = reading-accepted _ _ _ (m .before .before .read .ensures) (m .reading .given .1) in
+    ap (λ o. o .start) t ∙ sym (start-of-accepted (m .before .before .before .before .args .table .now) e)
 
 returns-2 : tie.Need-returns-2
-returns-2 c = let (e, at, n) = reading-refused _ _ _ _ (c .before .before .before .read .ensures) (c .before .reading2 .given .1) in sym (start-of-refused (c .before .before .before .before .before .args .table .now) (λ z. n (sym e ∙ z)))
+returns-2 c =
+    let m = c .before in
+    let (e, at, n) = reading-refused _ _ _ _ (m .before .before .read .ensures) (m .reading2 .given .1) in
+    sym (start-of-refused (m .before .before .before .before .args .table .now) (λ z. n (sym e ∙ z)))
 
 pub first-place-spec : {M : Type 1} → statement M
 first-place-spec =

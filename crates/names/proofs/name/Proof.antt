@@ -20,16 +20,26 @@ returns : tie.Need-returns
 returns c = two-empty _ _ _ _ (c .before .before .naming-in-two .ensures) _ (c .before .match .keys2) (c .part-at .ensures)
 
 part-at-requires-2 : tie.Need-part-at-requires-2
-part-at-requires-2 c κs = two-within (c .before .before .before .before .before .before .before .args .old) (c .before .before .before .before .before .before .before .args .new) _ _ (c .before .before .before .before .naming-in-two .ensures) _ _ _ (c .before .before .naming .given .1) true (eq-eqb _ _ (c .if1 .taken))
+part-at-requires-2 c κs =
+    let m = c .before .before in
+    let a = m .before .before .before .before .before .args in
+    two-within (a .old) (a .new) _ _ (m .before .before .naming-in-two .ensures) _ _ _ (m .naming .given .1) true (eq-eqb _ _ (c .if1 .taken))
 
 returns-2 : tie.Need-returns-2
-returns-2 c = two-part _ _ _ _ (c .before .before .before .before .before .naming-in-two .ensures) _ _ _ (c .before .before .before .naming .given .1) true (eq-eqb _ _ (c .before .if1 .taken)) _ (c .part-at2 .ensures)
+returns-2 c =
+    let m = c .before .before .before in
+    two-part _ _ _ _ (m .before .before .naming-in-two .ensures) _ _ _ (m .naming .given .1) true (eq-eqb _ _ (c .before .if1 .taken)) _ (c .part-at2 .ensures)
 
 part-at-requires-3 : tie.Need-part-at-requires-3
-part-at-requires-3 c κs = two-within (c .before .before .before .before .before .before .before .args .old) (c .before .before .before .before .before .before .before .args .new) _ _ (c .before .before .before .before .naming-in-two .ensures) _ _ _ (c .before .before .naming .given .1) false (ne-eqb _ _ (c .if1 .left))
+part-at-requires-3 c κs =
+    let m = c .before .before in
+    let a = m .before .before .before .before .before .args in
+    two-within (a .old) (a .new) _ _ (m .before .before .naming-in-two .ensures) _ _ _ (m .naming .given .1) false (ne-eqb _ _ (c .if1 .left))
 
 returns-3 : tie.Need-returns-3
-returns-3 c = two-part _ _ _ _ (c .before .before .before .before .before .naming-in-two .ensures) _ _ _ (c .before .before .before .naming .given .1) false (ne-eqb _ _ (c .before .if1 .left)) _ (c .part-at3 .ensures)
+returns-3 c =
+    let m = c .before .before .before in
+    two-part _ _ _ _ (m .before .before .naming-in-two .ensures) _ _ _ (m .naming .given .1) false (ne-eqb _ _ (c .before .if1 .left)) _ (c .part-at3 .ensures)
 
 pub name-spec : {M : Type 1} → statement M
 name-spec =

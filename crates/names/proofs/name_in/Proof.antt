@@ -18,7 +18,9 @@ returns : tie.Need-returns
 returns c = in-empty _ _ _ (c .before .before .naming-in .ensures) _ (c .before .match .keys2) (c .part-at .ensures)
 
 part-at-requires-2 : tie.Need-part-at-requires-2
-part-at-requires-2 c κs = in-within (c .before .before .before .before .before .args .table) _ _ (c .before .before .before .naming-in .ensures) _ _ _ (c .before .naming .given .1)
+part-at-requires-2 c κs =
+    let m = c .before in
+    in-within (m .before .before .before .before .args .table) _ _ (m .before .before .naming-in .ensures) _ _ _ (m .naming .given .1)
 
 returns-2 : tie.Need-returns-2
 returns-2 c = in-part _ _ _ (c .before .before .before .before .naming-in .ensures) _ _ _ (c .before .before .naming .given .1) _ (c .part-at2 .ensures)

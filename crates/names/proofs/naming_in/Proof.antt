@@ -31,7 +31,9 @@ returns-2 : tie.Need-returns-2
 returns-2 c = in-refused _ _ _ (c .before .before .before .read .ensures) _ _ (c .before .reading .given .1)
 
 returns-3 : tie.Need-returns-3
-returns-3 c = in-found _ _ _ (c .before .before .before .before .before .before .read .ensures) _ (c .before .before .before .before .reading2 .given .1) _ (c .before .if1 .left) (c .find .ensures)
+returns-3 c =
+    let m = c .before .before .before .before in
+    in-found _ _ _ (m .before .before .read .ensures) _ (m .reading2 .given .1) _ (c .before .if1 .left) (c .find .ensures)
 
 pub naming-in-spec : {M : Type 1} → statement M
 naming-in-spec =

@@ -28,28 +28,41 @@ cast-if1 : tie.Need-cast-if1
 cast-if1 c = search needs
 
 returns : tie.Need-returns
-returns c = two-above _ _ _ _ (c .before .before .before .before .before .before .before .before .before .read .ensures) _ (c .before .before .before .before .before .before .before .old-reading2 .given .1) _ (c .before .before .before .before .before .read2 .ensures) _ (c .before .before .before .new-reading2 .given .1) (inl (c .if1 .taken))
+returns c =
+    let m = c .before .before .before in
+    two-above _ _ _ _ (m .before .before .before .before .before .before .read .ensures) _ (m .before .before .before .before .old-reading2 .given .1) _ (m .before .before .read2 .ensures) _ (m .new-reading2 .given .1)
+    (inl (c .if1 .taken))
 
 cast-if2 : tie.Need-cast-if2
 cast-if2 c = search needs
 
 returns-2 : tie.Need-returns-2
-returns-2 c = two-above _ _ _ _ (c .before .before .before .before .before .before .before .before .before .before .before .read .ensures) _ (c .before .before .before .before .before .before .before .before .before .old-reading2 .given .1) _ (c .before .before .before .before .before .before .before .read2 .ensures) _ (c .before .before .before .before .before .new-reading2 .given .1) (inr (c .if2 .taken))
+returns-2 c =
+    let m = c .before .before .before .before .before in
+    two-above _ _ _ _ (m .before .before .before .before .before .before .read .ensures) _ (m .before .before .before .before .old-reading2 .given .1) _ (m .before .before .read2 .ensures) _ (m .new-reading2 .given .1)
+    (inr (c .if2 .taken))
 
 cast-find-in-two : tie.Need-cast-find-in-two
 cast-find-in-two c = search needs
 
 find-in-two-requires : tie.Need-find-in-two-requires
-find-in-two-requires c κs = two-accepted _ _ (c .before .before .before .before .before .before .before .before .before .before .before .before .before .before .args .router) _ (c .before .before .before .before .before .before .before .before .before .before .before .read .ensures) _ (c .before .before .before .before .before .before .before .before .before .old-reading2 .given .1) _ (c .before .before .before .before .before .before .before .read2 .ensures) _ (c .before .before .before .before .before .new-reading2 .given .1)
+find-in-two-requires c κs =
+    let m = c .before .before .before .before .before in
+    two-accepted _ _ (m .before .before .before .before .before .before .before .before .before .args .router) _ (m .before .before .before .before .before .before .read .ensures) _ (m .before .before .before .before .old-reading2 .given .1) _ (m .before .before .read2 .ensures) _ (m .new-reading2 .given .1)
 
 returns-3 : tie.Need-returns-3
 returns-3 c = old-refused _ _ _ _ (c .before .before .before .read .ensures) _ _ (c .before .old-reading .given .1)
 
 returns-4 : tie.Need-returns-4
-returns-4 c = new-refused _ _ _ _ (c .before .before .before .before .before .before .before .read .ensures) _ (c .before .before .before .before .before .old-reading2 .given .1) _ (c .before .before .before .read2 .ensures) _ _ (c .before .new-reading .given .1)
+returns-4 c =
+    let m = c .before in
+    new-refused _ _ _ _ (m .before .before .before .before .before .before .read .ensures) _ (m .before .before .before .before .old-reading2 .given .1) _ (m .before .before .read2 .ensures) _ _ (m .new-reading .given .1)
 
 returns-5 : tie.Need-returns-5
-returns-5 c = two-found _ _ _ _ (c .before .before .before .before .before .before .before .before .before .before .before .before .read .ensures) _ (c .before .before .before .before .before .before .before .before .before .before .old-reading2 .given .1) _ (c .before .before .before .before .before .before .before .before .read2 .ensures) _ (c .before .before .before .before .before .before .new-reading2 .given .1) _ (c .before .before .before .if1 .left) (c .before .if2 .left) (c .find-in-two .ensures)
+returns-5 c =
+    let m = c .before .before .before .before .before .before in
+    two-found _ _ _ _ (m .before .before .before .before .before .before .read .ensures) _ (m .before .before .before .before .old-reading2 .given .1) _ (m .before .before .read2 .ensures) _ (m .new-reading2 .given .1)
+    _ (c .before .before .before .if1 .left) (c .before .if2 .left) (c .find-in-two .ensures)
 
 pub naming-in-two-spec : {M : Type 1} → statement M
 naming-in-two-spec =
