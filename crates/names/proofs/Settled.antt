@@ -1,6 +1,6 @@
 -- Each promise of this crate allows one answer: the companion's answers are equal, and the parts handed back are the same, the ghost name aside.
 -- Assumes nothing.
-use mathlib.Core.Path.{refl, sym, _∙_, ap}
+use mathlib.Core.Path.{_≡_, refl, sym, _∙_, ap}
 use mathlib.Core.List.{List}
 use Prim.Native.Nat.{ℕ}
 use native.Mathlib.Omega.{arith}
@@ -8,27 +8,31 @@ use denote.Ref.{RefT}
 use Rattle.rules.specs.Names.{Part}
 use Rattle.rules.specs.Questions.{Answer, name-part, two-names-part}
 use Rattle.rules.specs.Promises.{Settles}
-use Rattle.names.specs.Namings.{naming-numbers}
+use Rattle.names.specs.Namings.{naming-numbers, Placed}
 use Rattle.names.specs.Parts.{PartAt, IsPart, IsPartOfTwo, SamePart}
+use Rattle.names.specs.declared.Naming.{Naming}
 use Rattle.names.specs.declared.Naming.the-variants.{Named, Unnamed, Refused}
 use Rattle.names.proofs.Namings.{Promised, PromisedIn, PromisedInTwo}
 
 -- ---- the companion's answer
 
--- the numbers tell named, unnamed and refused apart, and the part settles a name
-pub naming-settled : (said : Answer ℕ) (part : Part) → Settles (Promised said part)
+-- the numbers tell named, unnamed and refused apart, since a refusal has a number; the part settles a name
+pub naming-apart : (part : Part) (x y : Naming) → Placed part x → Placed part y → naming-numbers x ≡ naming-numbers y → x ≡ y
 unfolding naming-numbers
-naming-settled said part (Named table place size) (Named table′ place′ size′) (e, p) (f, q) =
+naming-apart part (Named table place size) (Named table′ place′ size′) p q e =
     ap (λ (part : Part). Named (part .table) (part .place) (part .size)) (p ∙ sym q)
-naming-settled said part (Named table place size) Unnamed (e, p) (f, q) = absurd (omega (arith, ap (λ a. a .values) (e ∙ sym f)))
-naming-settled said part (Named table place size) (Refused number at′ place′) (e, p) (f, q) = absurd (q (ap (λ a. a .refusal .number) (f ∙ sym e)))
-naming-settled said part Unnamed (Named table place size) (e, p) (f, q) = absurd (omega (arith, ap (λ a. a .values) (e ∙ sym f)))
-naming-settled said part Unnamed Unnamed (e, p) (f, q) = refl
-naming-settled said part Unnamed (Refused number table place) (e, p) (f, q) = absurd (q (ap (λ a. a .refusal .number) (f ∙ sym e)))
-naming-settled said part (Refused number at place) (Named table place′ size) (e, p) (f, q) = absurd (p (ap (λ a. a .refusal .number) (e ∙ sym f)))
-naming-settled said part (Refused number table place) Unnamed (e, p) (f, q) = absurd (p (ap (λ a. a .refusal .number) (e ∙ sym f)))
-naming-settled said part (Refused number table place) (Refused number′ table′ place′) (e, p) (f, q) =
-    ap (λ (a : Answer ℕ). Refused (a .refusal .number) (a .refusal .table) (a .refusal .place)) (e ∙ sym f)
+naming-apart part (Named table place size) Unnamed p q e = absurd (omega (arith, ap (λ a. a .values) e))
+naming-apart part (Named table place size) (Refused number at′ place′) p q e = absurd (q (sym (ap (λ a. a .refusal .number) e)))
+naming-apart part Unnamed (Named table place size) p q e = absurd (omega (arith, ap (λ a. a .values) e))
+naming-apart part Unnamed Unnamed p q e = refl
+naming-apart part Unnamed (Refused number table place) p q e = absurd (q (sym (ap (λ a. a .refusal .number) e)))
+naming-apart part (Refused number at place) (Named table place′ size) p q e = absurd (p (ap (λ a. a .refusal .number) e))
+naming-apart part (Refused number table place) Unnamed p q e = absurd (p (ap (λ a. a .refusal .number) e))
+naming-apart part (Refused number table place) (Refused number′ table′ place′) p q e =
+    ap (λ (a : Answer ℕ). Refused (a .refusal .number) (a .refusal .table) (a .refusal .place)) e
+
+naming-settled : (said : Answer ℕ) (part : Part) → Settles (Promised said part)
+naming-settled said part x y p q = naming-apart part x y (p .1) (q .1) (p .0 ∙ sym (q .0))
 
 pub naming-in-settled : (table : List ℕ) (router : ℕ) → Settles (PromisedIn table router)
 naming-in-settled table router = naming-settled _ _

@@ -21,7 +21,7 @@ pub joined-settled : (high low : ℕ) → Settles (λ (r : ℕ). r ≡ high * 25
 joined-settled high low = value-settled (high * 256 + low)
 
 -- the step's answers are told apart
-step-apart : (bytes : List ℕ) (place : ℕ) (x y : StepHere) → step-of bytes place x ≡ step-of bytes place y → x ≡ y
+pub step-apart : (bytes : List ℕ) (place : ℕ) (x y : StepHere) → step-of bytes place x ≡ step-of bytes place y → x ≡ y
 unfolding step-of
 step-apart bytes place (here.Record tag end) (here.Record tag′ end′) e =
     let t : tag ≡ tag′ = ap tag-in e in
