@@ -6,31 +6,41 @@ use mathlib.Core.Bool.{Bool, true, false, _&&_, and-false}
 use mathlib.Core.List.{List}
 use Prim.Native.Nat.{ℕ, _+_, _*_, _≤_, _<_}
 use native.Mathlib.Omega.{arith}
-use lib.Dec.{leb}
+use lib.Dec.{eqb, leb}
 use lib.ListN.{length, drop}
 use lib.Seq.{getD-drop}
 use borrow.Author.Tests.{le-leb, lt-leb, eq-eqb, ne-eqb}
 use Rattle.rules.specs.Words.{pick}
 use Rattle.rules.specs.Layout.{Link, tag-link}
-use Rattle.rules.specs.Table.{byte, link-of}
+use Rattle.rules.specs.Table.{byte, two-bytes, link-of}
 use Rattle.rules.specs.Questions.{no-more}
-use Rattle.rules.proofs.Basics.{both-pass, pick-t, pick-f}
+use Rattle.rules.proofs.Basics.{pick-t, pick-f}
 use Rattle.links.specs.Links.{link-there, link-at, behind, next-numbers, place-in, Tells}
 use Rattle.links.specs.declared.NextLink.the-variants.{One, NoMore}
 
 module _ (bytes : List ℕ) (place : ℕ) where
-  -- a link stands there, or not: the table ends too early, or the tag is another
-  pub there : place + 7 ≤ length bytes → byte bytes place ≡ tag-link → link-there bytes place ≡ true
-  unfolding link-there
-  there h e = both-pass _ _ (le-leb (place + 7) (length bytes) h) (eq-eqb (byte bytes place) tag-link e)
-
+  -- no link stands there where the table ends too early, or where the tag is another
   pub cut : length bytes < place + 7 → link-there bytes place ≡ false
   unfolding link-there
   cut h = rw (lt-leb (place + 7) (length bytes) h)
 
   pub other : byte bytes place ≢ tag-link → link-there bytes place ≡ false
   unfolding link-there
-  other e = ap (λ t. leb (place + 7) (length bytes) && t) (ne-eqb (byte bytes place) tag-link e) ∙ and-false (leb (place + 7) (length bytes))
+  other e = rw (ne-eqb (byte bytes place) tag-link e, and-false (leb (place + 7) (length bytes)))
+
+  -- with the right length one stands there, with another it does not
+  module _ (size : ℕ) (q : size ≡ byte bytes (place + 1) * 256 + byte bytes (place + 2)) where
+    length-there : two-bytes bytes (place + 1) ≡ size
+    length-there = ap (λ n. byte bytes (place + 1) * 256 + byte bytes n) (omega arith) ∙ sym q
+
+    pub other-length : size ≢ 4 → link-there bytes place ≡ false
+    unfolding link-there
+    other-length e =
+        rw (length-there, ne-eqb size 4 e) (and-false (leb (place + 7) (length bytes) && eqb (byte bytes place) tag-link))
+
+    pub there : place + 7 ≤ length bytes → byte bytes place ≡ tag-link → size ≡ 4 → link-there bytes place ≡ true
+    unfolding link-there
+    there h e f = rw (le-leb (place + 7) (length bytes) h, eq-eqb (byte bytes place) tag-link e, length-there, eq-eqb size 4 f)
 
   -- the link there
   pub at-none : link-there bytes place ≡ false → link-at bytes place ≡ no-more

@@ -6,8 +6,7 @@ use Prim.Native.Nat.{ℕ, _+_, _*_}
 use native.Mathlib.Omega.{arith}
 use denote.Ref.{RefT}
 use Rattle.rules.specs.Promises.{Settles}
-use Rattle.rules.proofs.Uniqueness.{value-settled}
-use Rattle.links.specs.Links.{next-numbers, place-in, Tells, reader-start}
+use Rattle.links.specs.Links.{next-numbers, place-in, Tells}
 use Rattle.links.specs.Runs.{Made, Moved}
 use Rattle.links.specs.declared.LinkReader.{LinkReader}
 use Rattle.links.specs.declared.NextLink.{NextLink}
@@ -26,12 +25,6 @@ link-at-settled bytes place x y p q = next-apart place x y (p .0 ∙ sym (q .0))
 
 pub link-by-number-settled : (bytes : List ℕ) (start i : ℕ) → Settles (λ r. Tells bytes (start + 7 * i) r)
 link-by-number-settled bytes start i = link-at-settled bytes (start + 7 * i)
-
-pub place-behind-settled : (next : NextLink) (place : ℕ) → Settles (λ (r : ℕ). r ≡ place-in place next)
-place-behind-settled next place = value-settled (place-in place next)
-
-pub first-place-settled : (bytes : List ℕ) → Settles (λ (r : ℕ). r ≡ reader-start bytes)
-first-place-settled bytes = value-settled (reader-start bytes)
 
 pub read-links-settled : (table : RefT (List ℕ)) → Settles (λ r. Made table r)
 read-links-settled table x y p q = λ i. record { table = (p .0 ∙ sym (q .0)) i; place = (p .1 ∙ sym (q .1)) i }

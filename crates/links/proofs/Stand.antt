@@ -2,28 +2,28 @@
 -- Assumes nothing.
 use mathlib.Core.Path.{_≡_, refl, sym, _∙_, ap, subst, subst₂}
 use mathlib.Core.Logic.{_≢_}
-use mathlib.Core.Bool.{Bool, true, false}
 use mathlib.Core.List.{List, [], _∷_}
 use Prim.Native.Nat.{ℕ, zero, suc, _+_, _-_, _*_, _≤_, _<_}
 use native.Mathlib.Decide.{ℕ-discrete, decLe, decLt}
 use native.Mathlib.Omega.{arith}
-use lib.Dec.{ltb}
-use lib.ListN.{length, take, drop, length-drop}
-use lib.Seq.{getD-drop, getD-take, drop-drop}
-use borrow.Author.Tests.{ltb-false, lt-ltb, le-ltb, eq-eqb, ne-eqb}
-use Rattle.rules.specs.Words.{pick, those}
+use lib.ListN.{length, take, drop}
+use lib.Seq.{getD-take, drop-drop}
+use borrow.Author.Tests.{lt-ltb, le-ltb, eq-eqb, ne-eqb}
+use Rattle.rules.specs.Words.{those}
 use Rattle.rules.specs.Layout.{Link, tag-link, tag-end}
-use Rattle.rules.specs.Table.{byte, Record, link-of, Kept, keep, record-in, Judged, accepted, refused, followed-by, judge, nothing-behind, read, number-of, records-of, table-of, says}
+use Rattle.rules.specs.Table.{byte, link-of, Kept, keep, record-in, Judged, accepted, refused, followed-by, read, number-of, records-of, table-of, says}
+use Rattle.rules.specs.Demand1.{IsAccepted}
 use Rattle.rules.specs.Questions.{no-more, link-in, link-answer}
 use Rattle.rules.proofs.Basics.{pick-t, pick-f}
 use Rattle.rules.proofs.Judging.{size-in, Good, Judges, stops, ends, goes, judge-judges}
 use Rattle.rules.proofs.Records.{tag-order}
-use Rattle.links.specs.Links.{link-at, behind, reader-start, next-numbers, place-in, Tells}
+use Rattle.rules.proofs.AtPlace.{tag-there, size-there, left-behind, whole-there}
+use Rattle.rules.proofs.Refusals.{judged-whole}
+use Rattle.links.specs.Links.{link-at, behind, reader-start}
 use Rattle.tables.specs.Readings.{links-place, links-start}
 use Rattle.tables.proofs.Tests.{link-long}
 use Rattle.tables.proofs.Places.{links-here, links-later, more-links, same-links, no-links, Starts, starts, lower, judged-ends}
 use Rattle.links.proofs.Place.{there, cut, other, at-none, at-one, behind-one, behind-none}
-use Rattle.links.specs.declared.NextLink.the-variants.{One, NoMore}
 
 -- ---- the links of an accepted table
 
@@ -44,21 +44,17 @@ module _ (bytes : List ℕ) where
   -- the links of a judged table stand where they start; the table ends in the bytes
   abbrev StandIn : Judged → Type 0
   StandIn (accepted rs end) = Stand bytes (links-place rs) (table-of rs .links) × (end ≤ length bytes)
-  StandIn (refused number at) = 1 ≤ number
+  StandIn (refused number at) = Unit {0}
 
   module _ (kept : Kept) (place : ℕ) (left : List ℕ) (g : Good kept left) (e : left ≡ drop place bytes) where
-    -- a good record stands whole in the bytes, its tag at its place
-    whole-here : place + 3 + size-in left ≤ length bytes
-    whole-here = let n : length left ≡ length bytes - place = ap length e ∙ length-drop place bytes in omega (arith, g .whole, g .headed)
-
-    tag-here : byte bytes place ≡ byte left 0
-    tag-here = sym (ap (λ l. byte l 0) e ∙ getD-drop place bytes 0 0 ∙ ap (λ n. byte bytes n) (omega arith))
-
     -- a link's contents are its last four bytes
     link-here : byte left 0 ≡ tag-link → link-at bytes place ≡ record { more = 1; link = link-of (record-in place left .contents) }
     link-here t =
         let four : size-in left ≡ 4 = link-long (byte left 0) (size-in left) (g .sized) t in
-        at-one bytes place (there bytes place (omega (arith, whole-here)) (tag-here ∙ t))
+        at-one bytes place (
+        there bytes place (size-in left) (size-there bytes place left e) (omega (arith, whole-there bytes place left e g))
+        (sym (tag-there bytes place left e) ∙ t) four
+        )
         ∙ ap (λ l. record { more = 1; link = l })
         (sym (link-part (size-in left) (drop 3 left) (omega arith) ∙ ap link-of (ap (drop 3) e ∙ drop-drop 3 place bytes)))
 
@@ -68,8 +64,8 @@ module _ (bytes : List ℕ) where
       subst₂ (Stand bytes)
           (sym (links-here (record-in place left) [] (omega arith)))
           (sym (same-links (record-in place left) [] (omega arith) ∙ no-links))
-          (none (at-none bytes place (other bytes place (omega (arith, tag-here))))),
-      whole-here,
+          (none (at-none bytes place (other bytes place (omega (arith, tag-there bytes place left e))))),
+      whole-there bytes place left e g,
     )
 
     -- any other, in front of what follows it
@@ -91,41 +87,25 @@ module _ (bytes : List ℕ) where
 
   all-stand : {kept : Kept} {place : ℕ} {left : List ℕ} {j : Judged} → Judges kept place left j → left ≡ drop place bytes → StandIn j
   unfolding keep
-  all-stand (stops q a b) e = a
+  all-stand (stops q a b) e = tt
   all-stand {kept} {place} {left} (ends g t) e = at-end kept place left g e t
   all-stand {kept} {place} {left} (goes {j = j} g t r) e =
-      let further : place + (3 + size-in left) ≡ place + 3 + size-in left = omega arith in
-      at-record kept place left g e j t (starts r)
-      (all-stand r (ap (drop (3 + size-in left)) e ∙ drop-drop (3 + size-in left) place bytes ∙ ap (λ n. drop n bytes) further))
+      at-record kept place left g e j t (starts r) (all-stand r (left-behind bytes place left e))
 
--- the links of an accepted table, and where it ends
-record Linked (bytes : List ℕ) : Type 0 where
-  all-there : Stand bytes (links-start bytes) (says bytes .links)
-  ends-behind : links-start bytes + 7 * length (says bytes .links) + 3 ≡ length bytes
+-- they stand one behind the other, and the end record behind them
+module _ (bytes : List ℕ) (e : IsAccepted bytes) where
+  accepted-stand : StandIn bytes (accepted (judged-whole bytes e .records) (judged-whole bytes e .end))
+  accepted-stand = subst (StandIn bytes) (judged-whole bytes e .judged-so) (all-stand bytes (judge-judges bytes) refl)
 
-linked : (bytes : List ℕ) → number-of (read bytes) ≡ 0 → Linked bytes
-unfolding read links-start says
-linked bytes = go (judge bytes) refl (all-stand bytes (judge-judges bytes) refl)
-  where
-    whole : (rs : List Record) (end : ℕ) (t : Bool) → StandIn bytes (accepted rs end) → judge bytes ≡ accepted rs end → ltb end (length bytes) ≡ t
-        → nothing-behind (length bytes) (judge bytes) ≡ pick t (refused 7 end) (accepted rs end)
-        → number-of (nothing-behind (length bytes) (judge bytes)) ≡ 0 → Linked bytes
-    whole rs end true h j b r e = absurd (omega (arith, ap number-of r))
-    whole rs end false h j b r e = record {
-      all-there = rw r (h .0);
-      ends-behind = rw r (omega (arith, judged-ends bytes rs end j, h .1, ltb-false end (length bytes) b));
-    }
+  pub links-stand : Stand bytes (links-start bytes) (says bytes .links)
+  unfolding links-start says
+  links-stand = rw (judged-whole bytes e .read-so) (accepted-stand .0)
 
-    go : (j : Judged) → judge bytes ≡ j → StandIn bytes j → number-of (nothing-behind (length bytes) (judge bytes)) ≡ 0 → Linked bytes
-    go (accepted rs end) j h e = whole rs end (ltb end (length bytes)) h j refl (ap (nothing-behind (length bytes)) j) e
-    go (refused number at) j h e = absurd (omega (arith, ap (λ j. number-of (nothing-behind (length bytes) j)) j))
-
--- the links stand one behind the other, and the end record behind them
-pub links-stand : (bytes : List ℕ) → number-of (read bytes) ≡ 0 → Stand bytes (links-start bytes) (says bytes .links)
-links-stand bytes e = linked bytes e .all-there
-
-pub links-end : (bytes : List ℕ) → number-of (read bytes) ≡ 0 → links-start bytes + 7 * length (says bytes .links) + 3 ≡ length bytes
-links-end bytes e = linked bytes e .ends-behind
+  pub links-end : links-start bytes + 7 * length (says bytes .links) + 3 ≡ length bytes
+  unfolding links-start says
+  links-end =
+      let w = judged-whole bytes e in
+      rw (w .read-so) (omega (arith, judged-ends bytes (w .records) (w .end) (w .judged-so), accepted-stand .1, w .to-end))
 
 -- ---- a reader's links
 
@@ -140,7 +120,7 @@ none-of-refused bytes = go (read bytes) refl
 
 -- where a reader starts
 module _ (bytes : List ℕ) where
-  pub start-of-accepted : number-of (read bytes) ≡ 0 → reader-start bytes ≡ links-start bytes
+  pub start-of-accepted : IsAccepted bytes → reader-start bytes ≡ links-start bytes
   unfolding reader-start
   start-of-accepted e = pick-t _ _ _ (eq-eqb _ 0 e)
 
@@ -152,7 +132,7 @@ module _ (bytes : List ℕ) where
   pub reader-stands : Stand bytes (reader-start bytes) (says bytes .links)
   reader-stands = go (ℕ-discrete (number-of (read bytes)) 0)
     where
-      go : Dec (number-of (read bytes) ≡ 0) → Stand bytes (reader-start bytes) (says bytes .links)
+      go : Dec (IsAccepted bytes) → Stand bytes (reader-start bytes) (says bytes .links)
       go (yes e) = rw (start-of-accepted e) (links-stand bytes e)
       go (no e) =
           subst₂ (Stand bytes) (sym (start-of-refused e)) (sym (none-of-refused bytes e))
@@ -184,32 +164,6 @@ in-later zero ls = refl
 in-later (suc k) [] = none-in [] 0 (omega arith) ∙ sym (none-in [] (suc k) (omega arith))
 in-later (suc k) (l ∷ ls) = in-later k ls ∙ sym (later-in l ls k)
 
--- ---- what is told of links that stand
-
--- from a place on stands a link, and from the next place on others
-pub record Onward (bytes : List ℕ) (place : ℕ) (l : Link) (next : ℕ) (ls : List Link) : Type 0 where
-  pub rest : List Link
-  pub is-more : ls ≡ l ∷ rest
-  pub is-next : next ≡ place + 7
-  pub others : Stand bytes next rest
-
--- what is told there says which links stand
-pub told-one : {bytes : List ℕ} {place : ℕ} {ls : List Link} (a b weight next : ℕ) → Stand bytes place ls → Tells bytes place (One a b weight next)
-    → Onward bytes place (record { a = a; b = b; weight = weight }) next ls
-unfolding next-numbers place-in
-told-one a b weight next (none e) t = absurd (omega (arith, ap (λ n. n .more) (t .0 ∙ e)))
-told-one {bytes} {place} a b weight next (one {l = l} {ls = ls} e s) t = record {
-  rest = ls;
-  is-more = ap (λ n. n .link ∷ ls) (sym (t .0 ∙ e));
-  is-next = t .1 ∙ behind-one bytes place l e;
-  others = subst (λ n. Stand bytes n ls) (sym (t .1 ∙ behind-one bytes place l e)) s;
-}
-
-pub told-none : {bytes : List ℕ} {place : ℕ} {ls : List Link} → Stand bytes place ls → Tells bytes place NoMore → ls ≡ []
-unfolding next-numbers
-told-none (none e) t = refl
-told-none (one e s) t = absurd (omega (arith, ap (λ n. n .more) (t .0 ∙ e)))
-
 -- the first of the links that stand, and those that stand behind it
 pub stand-first : {bytes : List ℕ} {place : ℕ} {ls : List Link} → Stand bytes place ls → link-at bytes place ≡ link-in ls 0
 stand-first (none e) = e ∙ sym (none-in [] 0 (omega arith))
@@ -230,7 +184,7 @@ stand-at {bytes} {place} (one {l = l} {ls = ls} e s) (suc i) h =
     let further : place + 7 * suc i ≡ place + 7 + 7 * i = omega arith in
     ap (link-at bytes) further ∙ stand-at s i (omega arith) ∙ sym (later-in l ls i)
 
-pub link-by-number : (bytes : List ℕ) → number-of (read bytes) ≡ 0 → (i : ℕ) → link-at bytes (links-start bytes + 7 * i) ≡ link-answer bytes i
+pub link-by-number : (bytes : List ℕ) → IsAccepted bytes → (i : ℕ) → link-at bytes (links-start bytes + 7 * i) ≡ link-answer bytes i
 unfolding link-answer
 link-by-number bytes e i = go (decLe i (length (says bytes .links)))
   where

@@ -6,15 +6,15 @@ use Prim.Native.Nat.{ℕ, _+_}
 use lib.ListN.{length, drop}
 use Rattle.rules.specs.Words.{_=?_, _≤?_, pick}
 use Rattle.rules.specs.Layout.{tag-link}
-use Rattle.rules.specs.Table.{byte, link-of, read, number-of}
+use Rattle.rules.specs.Table.{byte, two-bytes, link-of, read, number-of}
 use Rattle.rules.specs.Questions.{NextLink, no-more}
 use Rattle.tables.specs.Readings.{links-start}
 use Rattle.links.specs.declared.NextLink.{NextLink as NextLinkHere}
 use Rattle.links.specs.declared.NextLink.the-variants.{One, NoMore}
 
--- a link's record stands whole at a place: its tag, and all its seven bytes
+-- a link's record stands whole at a place: all its seven bytes, its tag, its length
 unfoldable pub link-there : List ℕ → ℕ → Bool
-link-there bytes place = place + 7 ≤? length bytes && byte bytes place =? tag-link
+link-there bytes place = place + 7 ≤? length bytes && byte bytes place =? tag-link && two-bytes bytes (place + 1) =? 4
 
 -- the link whose record stands at a place, or "no more"
 unfoldable pub link-at : List ℕ → ℕ → NextLink
@@ -33,7 +33,7 @@ unfoldable pub next-numbers : NextLinkHere → NextLink
 next-numbers (One a b weight next) = record { more = 1; link = record { a = a; b = b; weight = weight } }
 next-numbers NoMore = no-more
 
--- the place that the answer to a question at a place leads to
+-- the place behind the link that is told; where none is told, the same place
 unfoldable pub place-in : ℕ → NextLinkHere → ℕ
 place-in place (One a b weight next) = next
 place-in place NoMore = place

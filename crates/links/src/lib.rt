@@ -3,9 +3,10 @@ ghost use mathlib.Core.Path.{_≡_};
 ghost use Prim.Native.Nat.{_+_, _*_};
 ghost use Rattle.links.specs.Links.{Tells, place-in, reader-start};
 ghost use Rattle.links.specs.Runs.{Made, Moved};
+use tables::LINK;
 use tables::Reading;
-
-const LINK: u8 = 0x04;
+use tables::joined;
+use tables::read;
 
 // A link and the place behind its record, or no more.
 pub enum NextLink {
@@ -32,10 +33,13 @@ pub fn link_at(table: &[u8], place: usize) -> NextLink
     if table[place] != LINK {
         return NextLink::NoMore;
     }
+    if joined(table[place + 1], table[place + 2]) != 4 {
+        return NextLink::NoMore;
+    }
     NextLink::One {
         a: table[place + 3],
         b: table[place + 4],
-        weight: tables::joined(table[place + 5], table[place + 6]),
+        weight: joined(table[place + 5], table[place + 6]),
         behind: place + 7,
     }
 }
@@ -55,8 +59,8 @@ pub fn link_by_number(table: &[u8], start: usize, i: u16) -> NextLink
     link_at(table, start + distance)
 }
 
-// The place that the answer to a question at a place leads to.
-pub fn place_behind(next: NextLink, place: usize) -> usize
+// The place behind the link that is told; where none is told, the same place.
+fn place_behind(next: NextLink, place: usize) -> usize
     ensures { λ r. ⌜ r ≡ place-in place next ⌝ }
 {
     match next {
@@ -71,10 +75,10 @@ pub fn place_behind(next: NextLink, place: usize) -> usize
 }
 
 // Where a reader starts: at the first link; of a refused table at its end, where no link stands.
-pub fn first_place(table: &[u8]) -> usize
+fn first_place(table: &[u8]) -> usize
     ensures { λ r. ⌜ r ≡ reader-start (now (table .entry)) ⌝ }
 {
-    let reading = tables::read(table);
+    let reading = read(table);
     match reading {
         Reading::Accepted(t) => t.start,
         Reading::Refused { number, place } => table.len(),

@@ -2,21 +2,21 @@
 -- Assumes nothing.
 use mathlib.Core.Path.{_≡_, refl, sym, _∙_, ap, subst}
 use mathlib.Core.Logic.{_≢_}
-use mathlib.Core.Bool.{Bool, true, false}
 use mathlib.Core.List.{List, [], _∷_}
 use Prim.Native.Nat.{ℕ, _+_, _≤_, _<_}
-use native.Mathlib.Nat.{add-zero}
 use native.Mathlib.Decide.{ℕ-discrete}
 use native.Mathlib.Omega.{arith}
-use lib.Dec.{ltb}
-use lib.ListN.{length, drop, length-drop}
-use lib.Seq.{drop-drop, getD-drop, getD-take}
+use lib.ListN.{length, drop}
+use lib.Seq.{getD-drop, getD-take}
 use borrow.Author.Tests.{eq-eqb, ne-eqb}
-use Rattle.rules.specs.Words.{pick, those}
+use Rattle.rules.specs.Words.{those}
 use Rattle.rules.specs.Layout.{Name, tag-routers, tag-name}
-use Rattle.rules.specs.Table.{byte, Record, name-of, Kept, nothing-kept, keep, record-in, Judged, accepted, refused, followed-by, judge, nothing-behind, read, number-of, records-of, table-of, says}
+use Rattle.rules.specs.Table.{byte, Record, name-of, Kept, nothing-kept, keep, record-in, Judged, accepted, refused, followed-by, table-of, says}
 use Rattle.rules.proofs.Judging.{size-in, contents-in, Good, Judges, stops, ends, goes, judge-judges}
 use Rattle.rules.proofs.Records.{InOrder, tag-order, Fine, good-fine, length-contents, size-at-most, fine-routers, fine-name}
+use Rattle.rules.specs.Demand1.{IsAccepted}
+use Rattle.rules.proofs.AtPlace.{byte-there, tag-there, left-behind, whole-there}
+use Rattle.rules.proofs.Refusals.{judged-whole}
 use Rattle.rules.proofs.Reading.{names-in}
 
 -- from this place on these names follow each other, and then a record of another kind
@@ -36,33 +36,22 @@ unfolding table-of those
 names-without r rs e = rw (ne-eqb (r .tag) tag-name e)
 
 module _ (bytes : List ℕ) where
-  -- a byte of those that remain
-  byte-left : (place k : ℕ) (left : List ℕ) → left ≡ drop place bytes → byte left k ≡ byte bytes (place + k)
-  byte-left place k left e = ap (λ l. byte l k) e ∙ getD-drop place bytes k 0
-
   -- what judging lists from this place on; behind a link no name follows
   abbrev Lists : Kept → ℕ → Judged → Type 0
   Lists kept place (accepted rs end) = Listed bytes place (names-in rs) × (tag-name < kept .tag → names-in rs ≡ [])
-  Lists kept place (refused number at) = number ≢ 0
+  Lists kept place (refused number at) = Unit {0}
 
   module _ (kept : Kept) (place : ℕ) (left : List ℕ) (g : Good kept left) (e : left ≡ drop place bytes) where
-    -- a good record lies within the bytes
-    within : place + 3 + size-in left ≤ length bytes
-    within = omega (arith, g .whole, ap length e, length-drop place bytes)
-
-    tag-here : byte bytes place ≡ byte left 0
-    tag-here = sym (byte-left place 0 left e ∙ ap (byte bytes) (add-zero place))
-
     -- a record that is no name begins here
     none-here : (rs : List Record) → byte left 0 ≢ tag-name → names-in rs ≡ [] → Listed bytes place (names-in rs)
-    none-here rs t n = rw n (done {place = place} (omega (arith, within)) (λ h. t (sym tag-here ∙ h)))
+    none-here rs t n = rw n (done {place = place} (omega (arith, whole-there bytes place left e g)) (λ h. t (tag-there bytes place left e ∙ h)))
 
     -- a name stands here
     name-here : (rs : List Record) → byte left 0 ≡ tag-name → Listed bytes (place + 3 + size-in left) (names-in rs)
         → Listed bytes place (name-of (record-in place left) ∷ names-in rs)
     name-here rs t h =
-        more {m = m} (tag-here ∙ t) router refl (omega (arith, size, byte-left place 2 left e, size-at-most (byte left 0) (size-in left) (g .sized)))
-        (omega (arith, size, within)) (subst (λ n. Listed bytes n (names-in rs)) (omega (arith, size)) h)
+        more {m = m} (sym (tag-there bytes place left e) ∙ t) router refl (omega (arith, size, byte-there bytes place left e 2, size-at-most (byte left 0) (size-in left) (g .sized)))
+        (omega (arith, size, whole-there bytes place left e g)) (subst (λ n. Listed bytes n (names-in rs)) (omega (arith, size)) h)
       where
         m : Name
         m = name-of (record-in place left)
@@ -74,25 +63,24 @@ module _ (bytes : List ℕ) where
         size = sym (length-contents kept left g) ∙ omega (arith, ap length (fine-name kept place (contents-in left) fine .0))
 
         router : byte bytes (place + 3) ≡ m .router
-        router = sym (getD-take (size-in left) (drop 3 left) 0 0 (omega (arith, size)) ∙ getD-drop 3 left 0 0 ∙ byte-left place 3 left e)
+        router = sym (getD-take (size-in left) (drop 3 left) 0 0 (omega (arith, size)) ∙ getD-drop 3 left 0 0 ∙ byte-there bytes place left e 3)
 
   -- behind the routers record
   listed : {kept : Kept} {place : ℕ} {left : List ℕ} {j : Judged} → Judges kept place left j → left ≡ drop place bytes → 1 ≤ kept .tag → Lists kept place j
   unfolding keep table-of those
-  listed (stops q a b) e s = omega arith
+  listed (stops q a b) e s = tt
   listed {kept} {place} {left} (ends g t) e s =
       let none : names-in (record-in place left ∷ []) ≡ [] = names-without (record-in place left) [] (omega arith) in
       (none-here kept place left g e (record-in place left ∷ []) (omega arith) none, λ h. none)
   listed {kept} {place} {left} (goes {j = j} g t r) e s =
-      let further : place + (3 + size-in left) ≡ place + 3 + size-in left = omega arith in
       let o = tag-order kept (byte left 0) (g .tagged) in
-      go j o (listed r (ap (drop (3 + size-in left)) e ∙ drop-drop (3 + size-in left) place bytes ∙ ap (λ n. drop n bytes) further) (omega (arith, o .not-below)))
+      go j o (listed r (left-behind bytes place left e) (omega (arith, o .not-below)))
     where
       here : Record
       here = record-in place left
 
       go : (j : Judged) → InOrder kept (byte left 0) → Lists (keep kept here) (place + 3 + size-in left) j → Lists kept place (followed-by here j)
-      go (refused number at) o h = h
+      go (refused number at) o h = tt
       go (accepted rs end) o (h, none) = name (ℕ-discrete (byte left 0) tag-name)
         where
           name : Dec (byte left 0 ≡ tag-name) → Lists kept place (accepted (here ∷ rs) end)
@@ -102,37 +90,32 @@ module _ (bytes : List ℕ) where
               (none-here kept place left g e (here ∷ rs) n empty, λ l. empty)
 
 -- the names of an accepted table, behind its routers record
-pub names-listed : (bytes : List ℕ) → number-of (read bytes) ≡ 0 → Listed bytes 4 (says bytes .names)
-unfolding read says keep
-names-listed bytes = go (judge bytes) (whole (judge-judges bytes))
+abbrev Names : List ℕ → Judged → Type 0
+Names bytes (accepted rs end) = Listed bytes 4 (names-in rs)
+Names bytes (refused number at) = Unit {0}
+
+judged-names : {bytes : List ℕ} {j : Judged} → Judges nothing-kept 0 bytes j → Names bytes j
+unfolding keep
+judged-names (stops q a b) = tt
+judged-names {bytes} (ends g t) = absurd (omega (arith, tag-order nothing-kept (byte bytes 0) (g .tagged) .first-routers refl))
+judged-names {bytes} (goes {j = j} g t r) = behind j (listed bytes r refl (omega (arith, first-tag)))
   where
-    Names : Judged → Type 0
-    Names (accepted rs end) = Listed bytes 4 (names-in rs)
-    Names (refused number at) = number ≢ 0
+    first-tag : byte bytes 0 ≡ tag-routers
+    first-tag = tag-order nothing-kept (byte bytes 0) (g .tagged) .first-routers refl
 
-    whole : {j : Judged} → Judges nothing-kept 0 bytes j → Names j
-    whole (stops q a b) = omega arith
-    whole (ends g t) = absurd (omega (arith, tag-order nothing-kept (byte bytes 0) (g .tagged) .first-routers refl))
-    whole (goes {j = j} g t r) = behind j (listed bytes r refl (omega (arith, first-tag)))
-      where
-        first-tag : byte bytes 0 ≡ tag-routers
-        first-tag = tag-order nothing-kept (byte bytes 0) (g .tagged) .first-routers refl
+    fine : Fine nothing-kept tag-routers (contents-in bytes)
+    fine = rw first-tag at (good-fine nothing-kept bytes g)
 
-        fine : Fine nothing-kept tag-routers (contents-in bytes)
-        fine = rw first-tag at (good-fine nothing-kept bytes g)
+    size : size-in bytes ≡ 1
+    size = sym (length-contents nothing-kept bytes g) ∙ ap length (fine-routers nothing-kept (contents-in bytes) fine .0)
 
-        size : size-in bytes ≡ 1
-        size = sym (length-contents nothing-kept bytes g) ∙ ap length (fine-routers nothing-kept (contents-in bytes) fine .0)
+    behind : (j : Judged) → Lists bytes (keep nothing-kept (record-in 0 bytes)) (0 + 3 + size-in bytes) j → Names bytes (followed-by (record-in 0 bytes) j)
+    behind (refused number at) h = tt
+    behind (accepted rs end) h =
+        rw (names-without (record-in 0 bytes) rs (omega (arith, first-tag))) (subst (λ n. Listed bytes n (names-in rs)) (omega (arith, size)) (h .0))
 
-        behind : (j : Judged) → Lists bytes (keep nothing-kept (record-in 0 bytes)) (0 + 3 + size-in bytes) j → Names (followed-by (record-in 0 bytes) j)
-        behind (refused number at) h = h
-        behind (accepted rs end) h =
-            rw (names-without (record-in 0 bytes) rs (omega (arith, first-tag))) (subst (λ n. Listed bytes n (names-in rs)) (omega (arith, size)) (h .0))
-
-    go : (j : Judged) → Names j → number-of (nothing-behind (length bytes) j) ≡ 0 → Listed bytes 4 (names-in (records-of (nothing-behind (length bytes) j)))
-    go (refused number at) h = λ e. absurd (h e)
-    go (accepted rs end) h = to-end (ltb end (length bytes))
-      where
-        to-end : (t : Bool) → number-of (pick t (refused 7 end) (accepted rs end)) ≡ 0 → Listed bytes 4 (names-in (records-of (pick t (refused 7 end) (accepted rs end))))
-        to-end true e = absurd (omega arith)
-        to-end false e = h
+pub names-listed : (bytes : List ℕ) → IsAccepted bytes → Listed bytes 4 (says bytes .names)
+unfolding says
+names-listed bytes e =
+    let w = judged-whole bytes e in
+    rw (w .read-so) (subst (Names bytes) (w .judged-so) (judged-names (judge-judges bytes)))

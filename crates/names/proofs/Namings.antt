@@ -2,7 +2,7 @@
 -- Assumes nothing.
 use mathlib.Core.Path.{_≡_, refl, sym, _∙_, ap, subst}
 use mathlib.Core.Logic.{_⊎_, inl, inr}
-use mathlib.Core.Bool.{Bool, true, false, _||_, or-true}
+use mathlib.Core.Bool.{Bool, false, _||_}
 use mathlib.Core.Option.{Option, none, some}
 use mathlib.Core.List.{List, [], _∷_}
 use Prim.Native.Nat.{ℕ, _+_, _-_, _≤_, _<_}
@@ -17,12 +17,12 @@ use Rattle.rules.specs.Words.{Line, pick}
 use Rattle.rules.specs.Layout.{Name}
 use Rattle.rules.specs.Table.{number-of, read, says}
 use Rattle.rules.specs.Names.{Part, part-or, empty-part, named, or-else}
-use Rattle.rules.specs.Questions.{Answer, Refusal, answer, name-for, name-answer, name-part, two-names-answer, two-names-part}
+use Rattle.rules.specs.Questions.{answered, Refusal, answer, name-for, name-answer, name-part, two-names-answer, two-names-part}
 use Rattle.rules.proofs.Basics.{pick-t, pick-f}
 use Rattle.rules.proofs.Refusals.{gives-values}
-use Rattle.rules.proofs.Cases.{answered-exactly}
-use Rattle.tables.specs.Answers.{answered}
-use Rattle.names.specs.Namings.{naming-numbers, Placed, naming-of, naming-of-two}
+use Rattle.rules.proofs.Cases.{applies, quiet-routers, answered-exactly}
+use Rattle.rules.proofs.Lines.{line-applies, line-passes, no-line, table-bad, table-good}
+use Rattle.names.specs.Namings.{naming-numbers, NamesPart, NamesIn, NamesInTwo, naming-of, naming-of-two}
 use Rattle.names.specs.Parts.{PartAt, IsPart, IsPartOfTwo}
 use Rattle.names.specs.declared.Naming.{Naming}
 use Rattle.names.specs.declared.Naming.the-variants.{Named, Unnamed, Refused}
@@ -31,11 +31,8 @@ use Rattle.names.proofs.Seeking.{named-within}
 use Rattle.tables.specs.declared.Outline.{Outline}
 use Rattle.tables.specs.declared.Reading.{Reading}
 use Rattle.tables.specs.declared.Reading.the-variants as reading
-use Rattle.tables.proofs.Asked.{Promise, reading-accepted, reading-refused, line-applies, line-passes, no-line, table-bad, table-good}
-
--- what the companion promises of its answer: the numbers, and the part
-abbrev pub Promised : Answer ℕ → Part → Naming → Type 0
-Promised said part n = (naming-numbers n ≡ said) × Placed part n
+use Rattle.tables.specs.Readings.{Reads}
+use Rattle.tables.proofs.Asked.{reading-accepted, reading-refused}
 
 -- ---- the name in the new table, or else the one in the old
 
@@ -62,65 +59,59 @@ then-old n r in-old none e t q = q
 
 -- ---- the companion's answer for one table
 
-abbrev pub PromisedIn : List ℕ → ℕ → Naming → Type 0
-PromisedIn bytes router = Promised (name-answer bytes router) (name-part bytes router)
-
-module _ (bytes : List ℕ) (router : ℕ) (r : Reading) (p : Promise bytes r) where
-  pub in-refused : (number place : ℕ) → r ≡ reading.Refused number place → PromisedIn bytes router (Refused number 0 place)
+module _ (bytes : List ℕ) (router : ℕ) (r : Reading) (p : Reads bytes r) where
+  pub in-refused : (number place : ℕ) → r ≡ reading.Refused number place → NamesIn bytes router (Refused number 0 place)
   unfolding name-answer naming-numbers
   in-refused number place e =
       let (n, q, h) = reading-refused bytes r number place p e in
-      (sym (table-bad 0 bytes number place _ _ _ n q h), h)
+      (sym (table-bad _ _ 0 bytes _ number place n q h), h)
 
   module _ (t : Outline) (e : r ≡ reading.Accepted t) where
-    pub in-above : t .routers ≤ router → PromisedIn bytes router (Refused 9 0 0)
+    pub in-above : t .routers ≤ router → NamesIn bytes router (Refused 9 0 0)
     unfolding name-answer naming-numbers
     in-above h =
         let (accepted, outline) = reading-accepted bytes r t p e in
         let above : says bytes .routers ≤ router = rw outline at h in
-        (sym (table-good 0 bytes _ _ _ accepted ∙ line-applies _ _ _ _ (le-leb _ _ above) (omega arith)), omega arith)
+        (sym (table-good _ _ 0 bytes _ accepted ∙ line-applies _ _ _ _ (le-leb _ _ above) (omega arith)), omega arith)
 
-    pub in-found : (n : Naming) → router < t .routers → n ≡ naming-of 0 (name-for bytes router) → PromisedIn bytes router n
+    pub in-found : (n : Naming) → router < t .routers → n ≡ naming-of 0 (name-for bytes router) → NamesIn bytes router n
     unfolding name-answer name-part naming-numbers naming-of
-    in-found n h q = subst (PromisedIn bytes router) (sym q) (go (name-for bytes router) said part)
+    in-found n h q = subst (NamesIn bytes router) (sym q) (go (name-for bytes router) said part)
       where
         said : name-answer bytes router ≡ answered (named (name-for bytes router))
         said =
             let (accepted, outline) = reading-accepted bytes r t p e in
             let below : router < says bytes .routers = rw outline at h in
-            table-good 0 bytes _ _ _ accepted ∙ line-passes _ _ _ _ (lt-leb _ _ below) ∙ no-line _ _
+            table-good _ _ 0 bytes _ accepted ∙ line-passes _ _ _ _ (lt-leb _ _ below) ∙ no-line _ _
 
         part : name-part bytes router ≡ part-or 0 (name-for bytes router) (empty-part 0 bytes)
         part = pick-t _ _ _ (eq-eqb _ 0 (ap (λ a. a .refusal .number) said))
 
         go : (o : Option Name) → name-answer bytes router ≡ answered (named o) → name-part bytes router ≡ part-or 0 o (empty-part 0 bytes)
-            → PromisedIn bytes router (naming-of 0 o)
+            → NamesIn bytes router (naming-of 0 o)
         go none e p = (sym e, tt)
         go (some m) e p = (sym e, sym p)
 
 -- ---- the companion's answer for two tables
 
-abbrev pub PromisedInTwo : List ℕ → List ℕ → ℕ → Naming → Type 0
-PromisedInTwo old new router = Promised (two-names-answer old new router) (two-names-part old new router)
+-- a router that is not below one N is not below both
+not-both : {k l m : ℕ} → (k ≤ m) ⊎ (l ≤ m) → ¬ ((m < k) × (m < l))
+not-both (inl h) = λ b. omega arith
+not-both (inr h) = λ b. omega arith
 
--- one of the two tests passes
-either : (k l m : ℕ) → (k ≤ m) ⊎ (l ≤ m) → (leb k m || leb l m) ≡ true
-either k l m (inl h) = rw (le-leb k m h)
-either k l m (inr h) = rw (le-leb l m h) (or-true (leb k m))
-
-module _ (old new : List ℕ) (router : ℕ) (r : Reading) (p : Promise old r) where
-  pub old-refused : (number place : ℕ) → r ≡ reading.Refused number place → PromisedInTwo old new router (Refused number 0 place)
+module _ (old new : List ℕ) (router : ℕ) (r : Reading) (p : Reads old r) where
+  pub old-refused : (number place : ℕ) → r ≡ reading.Refused number place → NamesInTwo old new router (Refused number 0 place)
   unfolding two-names-answer naming-numbers
   old-refused number place e =
       let (n, q, h) = reading-refused old r number place p e in
-      (sym (table-bad 0 old number place _ _ _ n q h), h)
+      (sym (table-bad _ _ 0 old _ number place n q h), h)
 
-  module _ (t : Outline) (e : r ≡ reading.Accepted t) (s : Reading) (q : Promise new s) where
-    pub new-refused : (number place : ℕ) → s ≡ reading.Refused number place → PromisedInTwo old new router (Refused number 1 place)
+  module _ (t : Outline) (e : r ≡ reading.Accepted t) (s : Reading) (q : Reads new s) where
+    pub new-refused : (number place : ℕ) → s ≡ reading.Refused number place → NamesInTwo old new router (Refused number 1 place)
     unfolding two-names-answer naming-numbers
     new-refused number place f =
         let (n, z, h) = reading-refused new s number place q f in
-        (sym (table-good 0 old _ _ _ (reading-accepted old r t p e .0) ∙ table-bad 1 new number place _ _ _ n z h), h)
+        (sym (table-good _ _ 0 old _ (reading-accepted old r t p e .0) ∙ table-bad _ _ 1 new _ number place n z h), h)
 
     module _ (u : Outline) (f : s ≡ reading.Accepted u) where
       pub two-accepted : (number-of (read old) ≡ 0) × (number-of (read new) ≡ 0)
@@ -132,31 +123,31 @@ module _ (old new : List ℕ) (router : ℕ) (r : Reading) (p : Promise old r) w
       routers-of-new : u .routers ≡ says new .routers
       routers-of-new = ap (λ (t : Outline). t .routers) (reading-accepted new s u q f .1)
 
-      pub two-above : (t .routers ≤ router) ⊎ (u .routers ≤ router) → PromisedInTwo old new router (Refused 9 0 0)
+      pub two-above : (t .routers ≤ router) ⊎ (u .routers ≤ router) → NamesInTwo old new router (Refused 9 0 0)
       unfolding two-names-answer naming-numbers
       two-above h =
-          let above = either (says old .routers) (says new .routers) router (rw (routers-of-old, routers-of-new) at h) in (
-            sym (table-good 0 old _ _ _ (two-accepted .0) ∙ table-good 1 new _ _ _ (two-accepted .1) ∙ line-applies _ _ _ _ above (omega arith)),
+          let above = applies _ (quiet-routers (says old .routers) (says new .routers) router router) (not-both (rw (routers-of-old, routers-of-new) at h)) in (
+            sym (table-good _ _ 0 old _ (two-accepted .0) ∙ table-good _ _ 1 new _ (two-accepted .1) ∙ line-applies _ _ _ _ above (omega arith)),
             omega arith,
           )
 
       pub two-found : (n : Naming) → router < t .routers → router < u .routers → n ≡ naming-of-two (name-for old router) (name-for new router)
-          → PromisedInTwo old new router n
+          → NamesInTwo old new router n
       unfolding two-names-answer two-names-part naming-numbers naming-of naming-of-two
-      two-found n h g z = subst (PromisedInTwo old new router) (sym z) (go (name-for old router) (name-for new router) said part)
+      two-found n h g z = subst (NamesInTwo old new router) (sym z) (go (name-for old router) (name-for new router) said part)
         where
           below : (leb (says old .routers) router || leb (says new .routers) router) ≡ false
-          below = rw (lt-leb _ _ (rw routers-of-old at h), lt-leb _ _ (rw routers-of-new at g))
+          below = quiet-routers (says old .routers) (says new .routers) router router .1 (rw routers-of-old at h, rw routers-of-new at g)
 
           said : two-names-answer old new router ≡ answered (named (or-else (name-for new router) (name-for old router)))
           said =
-              table-good 0 old _ _ _ (two-accepted .0) ∙ table-good 1 new _ _ _ (two-accepted .1) ∙ line-passes _ _ _ _ below ∙ no-line _ _
+              table-good _ _ 0 old _ (two-accepted .0) ∙ table-good _ _ 1 new _ (two-accepted .1) ∙ line-passes _ _ _ _ below ∙ no-line _ _
 
           part : two-names-part old new router ≡ part-or 1 (name-for new router) (part-or 0 (name-for old router) (empty-part 1 new))
           part = pick-t _ _ _ (eq-eqb _ 0 (ap (λ a. a .refusal .number) said))
 
           go : (o p : Option Name) → two-names-answer old new router ≡ answered (named (or-else p o))
-              → two-names-part old new router ≡ part-or 1 p (part-or 0 o (empty-part 1 new)) → PromisedInTwo old new router (naming-of-two o p)
+              → two-names-part old new router ≡ part-or 1 p (part-or 0 o (empty-part 1 new)) → NamesInTwo old new router (naming-of-two o p)
           go o (some m) e p = (sym e, sym p)
           go none none e p = (sym e, tt)
           go (some m) none e p = (sym e, sym p)
@@ -169,7 +160,7 @@ part-sized bytes place size = ap (λ n. take n (drop place bytes)) {x = place + 
 
 -- where the answer is no name, the part is the empty one
 empty-without : (part : Part) (refusals : List (Line Refusal)) (o : Option Name) (full empty : Part) → (named o ≡ 0 → full ≡ empty)
-    → (n : Naming) → Promised (answer refusals 0 (named o)) part n → OneOf (1 ∷ 2 ∷ []) (tagOf (declared enum) n)
+    → (n : Naming) → (naming-numbers n ≡ answer refusals 0 (named o)) × NamesPart part n → OneOf (1 ∷ 2 ∷ []) (tagOf (declared enum) n)
     → pick (eqb (answer refusals 0 (named o) .refusal .number) 0) full empty ≡ empty
 unfolding naming-numbers
 empty-without part refusals o full empty f (Named table place size) p (inl t) = absurd (omega arith)
@@ -186,7 +177,7 @@ or-part : (P : Part → Type 0) (which : ℕ) (o : Option Name) (other : Part)
 or-part P which none other f h = h
 or-part P which (some m) other f h = f m refl
 
-module _ (s : RefT (List ℕ)) (router : ℕ) (n : Naming) (p : PromisedIn (s .now) router n) where
+module _ (s : RefT (List ℕ)) (router : ℕ) (n : Naming) (p : NamesIn (s .now) router n) where
   pub in-empty : (r : RefT (List ℕ)) → OneOf (1 ∷ 2 ∷ []) (tagOf (declared enum) n) → PartAt s (length (s .now)) 0 r → IsPart s (name-part (s .now) router) r
   unfolding name-answer name-part
   in-empty r t h =
@@ -198,8 +189,8 @@ module _ (s : RefT (List ℕ)) (router : ℕ) (n : Naming) (p : PromisedIn (s .n
       unnamed (some m) e = absurd (omega arith)
 
   module _ (table place size : ℕ) (e : n ≡ Named table place size) where
-    it : PromisedIn (s .now) router (Named table place size)
-    it = subst (PromisedIn (s .now) router) e p
+    it : NamesIn (s .now) router (Named table place size)
+    it = subst (NamesIn (s .now) router) e p
 
     pub in-within : place + size ≤ length (s .now)
     unfolding naming-numbers name-part
@@ -213,7 +204,7 @@ module _ (s : RefT (List ℕ)) (router : ℕ) (n : Naming) (p : PromisedIn (s .n
     pub in-part : (r : RefT (List ℕ)) → PartAt s place size r → IsPart s (name-part (s .now) router) r
     in-part r h = subst (λ part. IsPart s part r) (it .1) h
 
-module _ (old new : RefT (List ℕ)) (router : ℕ) (n : Naming) (p : PromisedInTwo (old .now) (new .now) router n) where
+module _ (old new : RefT (List ℕ)) (router : ℕ) (n : Naming) (p : NamesInTwo (old .now) (new .now) router n) where
   pub two-empty : (r : RefT (List ℕ)) → OneOf (1 ∷ 2 ∷ []) (tagOf (declared enum) n) → PartAt new (length (new .now)) 0 r
       → IsPartOfTwo old new (two-names-part (old .now) (new .now) router) r
   unfolding two-names-answer two-names-part
@@ -230,8 +221,8 @@ module _ (old new : RefT (List ℕ)) (router : ℕ) (n : Naming) (p : PromisedIn
       unnamed (some m) p e = absurd (omega arith)
 
   module _ (table place size : ℕ) (e : n ≡ Named table place size) (first : Bool) (q : eqb table 0 ≡ first) where
-    it-of-two : PromisedInTwo (old .now) (new .now) router (Named table place size)
-    it-of-two = subst (PromisedInTwo (old .now) (new .now) router) e p
+    it-of-two : NamesInTwo (old .now) (new .now) router (Named table place size)
+    it-of-two = subst (NamesInTwo (old .now) (new .now) router) e p
 
     pub two-within : place + size ≤ length (pick first (old .now) (new .now))
     unfolding naming-numbers two-names-part

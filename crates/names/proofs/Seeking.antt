@@ -12,7 +12,8 @@ use lib.ListN.{length}
 use borrow.Author.Tests.{eq-eqb, ne-eqb}
 use Rattle.rules.specs.Words.{pick}
 use Rattle.rules.specs.Layout.{Name, tag-name}
-use Rattle.rules.specs.Table.{byte, number-of, read, says}
+use Rattle.rules.specs.Table.{byte, says}
+use Rattle.rules.specs.Demand1.{IsAccepted}
 use Rattle.rules.specs.Names.{name-in, named}
 use Rattle.rules.specs.Questions.{name-for}
 use Rattle.rules.proofs.Basics.{pick-t, pick-f}
@@ -26,7 +27,7 @@ pub record Seeks (bytes : List ℕ) (router place : ℕ) : Type 0 where
   pub listed : Listed bytes place names
   pub same : name-in names router ≡ name-for bytes router
 
-pub seeks-first : (bytes : List ℕ) (router : ℕ) → number-of (read bytes) ≡ 0 → Seeks bytes router 4
+pub seeks-first : (bytes : List ℕ) (router : ℕ) → IsAccepted bytes → Seeks bytes router 4
 seeks-first bytes router e = record { names = says bytes .names; listed = names-listed bytes e; same = refl }
 
 module _ {bytes : List ℕ} {router place : ℕ} (s : Seeks bytes router place) where
@@ -94,6 +95,6 @@ listed-within {bytes} (more {m = x} {ms = ms} t r p z h l) router m e = go (eqb 
     go true e ih = subst (λ m. m .place + length (m .bytes) ≤ length bytes) (Option·some-injective x m e) (omega arith)
     go false e ih = ih e
 
-pub named-within : (bytes : List ℕ) → number-of (read bytes) ≡ 0 → (router : ℕ) (m : Name) → name-for bytes router ≡ some m
+pub named-within : (bytes : List ℕ) → IsAccepted bytes → (router : ℕ) (m : Name) → name-for bytes router ≡ some m
     → m .place + length (m .bytes) ≤ length bytes
 named-within bytes e = listed-within (names-listed bytes e)

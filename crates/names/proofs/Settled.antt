@@ -8,16 +8,15 @@ use denote.Ref.{RefT}
 use Rattle.rules.specs.Names.{Part}
 use Rattle.rules.specs.Questions.{Answer, name-part, two-names-part}
 use Rattle.rules.specs.Promises.{Settles}
-use Rattle.names.specs.Namings.{naming-numbers, Placed}
+use Rattle.names.specs.Namings.{naming-numbers, NamesPart, NamesIn, NamesInTwo}
 use Rattle.names.specs.Parts.{PartAt, IsPart, IsPartOfTwo, SamePart}
 use Rattle.names.specs.declared.Naming.{Naming}
 use Rattle.names.specs.declared.Naming.the-variants.{Named, Unnamed, Refused}
-use Rattle.names.proofs.Namings.{Promised, PromisedIn, PromisedInTwo}
 
 -- ---- the companion's answer
 
 -- the numbers tell named, unnamed and refused apart, since a refusal has a number; the part settles a name
-pub naming-apart : (part : Part) (x y : Naming) → Placed part x → Placed part y → naming-numbers x ≡ naming-numbers y → x ≡ y
+pub naming-apart : (part : Part) (x y : Naming) → NamesPart part x → NamesPart part y → naming-numbers x ≡ naming-numbers y → x ≡ y
 unfolding naming-numbers
 naming-apart part (Named table place size) (Named table′ place′ size′) p q e =
     ap (λ (part : Part). Named (part .table) (part .place) (part .size)) (p ∙ sym q)
@@ -31,14 +30,11 @@ naming-apart part (Refused number table place) Unnamed p q e = absurd (p (ap (λ
 naming-apart part (Refused number table place) (Refused number′ table′ place′) p q e =
     ap (λ (a : Answer ℕ). Refused (a .refusal .number) (a .refusal .table) (a .refusal .place)) e
 
-naming-settled : (said : Answer ℕ) (part : Part) → Settles (Promised said part)
-naming-settled said part x y p q = naming-apart part x y (p .1) (q .1) (p .0 ∙ sym (q .0))
+pub naming-in-settled : (table : List ℕ) (router : ℕ) → Settles (NamesIn table router)
+naming-in-settled table router x y p q = naming-apart (name-part table router) x y (p .1) (q .1) (p .0 ∙ sym (q .0))
 
-pub naming-in-settled : (table : List ℕ) (router : ℕ) → Settles (PromisedIn table router)
-naming-in-settled table router = naming-settled _ _
-
-pub naming-in-two-settled : (old new : List ℕ) (router : ℕ) → Settles (PromisedInTwo old new router)
-naming-in-two-settled old new router = naming-settled _ _
+pub naming-in-two-settled : (old new : List ℕ) (router : ℕ) → Settles (NamesInTwo old new router)
+naming-in-two-settled old new router x y p q = naming-apart (two-names-part old new router) x y (p .1) (q .1) (p .0 ∙ sym (q .0))
 
 -- ---- the part handed back
 

@@ -1,16 +1,14 @@
 // The name of a router, handed back as the very bytes inside the caller's table, and the companion question.
+use tables::NAME;
 use tables::Reading;
 use tables::read;
 ghost use mathlib.Core.Path.{_≡_};
 ghost use Prim.Native.Nat.{_+_, _≤_};
 ghost use lib.ListN.{length};
-ghost use Rattle.rules.specs.Table.{number-of};
-ghost use Rattle.rules.specs.Table as Table;
-ghost use Rattle.rules.specs.Questions.{name-for, name-answer, name-part, two-names-answer, two-names-part};
-ghost use Rattle.names.specs.Namings.{naming-numbers, Placed, naming-of, naming-of-two};
+ghost use Rattle.rules.specs.Demand1.{IsAccepted};
+ghost use Rattle.rules.specs.Questions.{name-for, name-part, two-names-part};
+ghost use Rattle.names.specs.Namings.{NamesIn, NamesInTwo, naming-of, naming-of-two};
 ghost use Rattle.names.specs.Parts.{PartAt, IsPart, IsPartOfTwo};
-
-const NAME: u8 = 0x02;
 
 // The companion's answer: the part that the name is, or unnamed, or the refusal. Table 0 is the old or only one, 1 the new.
 pub enum Naming {
@@ -34,9 +32,9 @@ const NO_ROUTER: Naming = Naming::Refused {
     place: 0,
 };
 
-// The name in an accepted table. Its name records follow each other behind the routers record, and their length is one byte.
+// The name in an accepted table. Its name records follow each other behind the routers record; their length is at most 17, so its low byte tells it.
 fn find(table: &[u8], which: u8, router: u8) -> Naming
-    requires { ⌜ number-of (Table.read (now table)) ≡ 0 ⌝ }
+    requires { ⌜ IsAccepted (now table) ⌝ }
     ensures { λ r. ⌜ r ≡ naming-of which (name-for (now (table .entry)) router) ⌝ }
 {
     let mut place = 4;
@@ -56,7 +54,7 @@ fn find(table: &[u8], which: u8, router: u8) -> Naming
 
 // The name in the new of two accepted tables, or else the one in the old.
 fn find_in_two(old: &[u8], new: &[u8], router: u8) -> Naming
-    requires { ⌜ (number-of (Table.read (now old)) ≡ 0) × (number-of (Table.read (now new)) ≡ 0) ⌝ }
+    requires { ⌜ IsAccepted (now old) × IsAccepted (now new) ⌝ }
     ensures { λ r. ⌜ r ≡ naming-of-two (name-for (now (old .entry)) router) (name-for (now (new .entry)) router) ⌝ }
 {
     let found = find(new, 1, router);
@@ -68,7 +66,7 @@ fn find_in_two(old: &[u8], new: &[u8], router: u8) -> Naming
 
 // The companion question for one table.
 pub fn naming_in(table: &[u8], router: u64) -> Naming
-    ensures { λ r. ⌜ (naming-numbers r ≡ name-answer (now (table .entry)) router) × Placed (name-part (now (table .entry)) router) r ⌝ }
+    ensures { λ r. ⌜ NamesIn (now (table .entry)) router r ⌝ }
 {
     let reading = read(table);
     match reading {
@@ -88,8 +86,7 @@ pub fn naming_in(table: &[u8], router: u64) -> Naming
 
 // The companion question for two tables.
 pub fn naming_in_two(old: &[u8], new: &[u8], router: u64) -> Naming
-    ensures { λ r. ⌜ (naming-numbers r ≡ two-names-answer (now (old .entry)) (now (new .entry)) router)
-        × Placed (two-names-part (now (old .entry)) (now (new .entry)) router) r ⌝ }
+    ensures { λ r. ⌜ NamesInTwo (now (old .entry)) (now (new .entry)) router r ⌝ }
 {
     let old_reading = read(old);
     match old_reading {

@@ -6,7 +6,8 @@ use mathlib.Core.List.{List, [], _∷_}
 use Prim.Native.Nat.{ℕ, _+_, _*_, _≤_, _<_}
 use native.Mathlib.Omega.{arith}
 use Rattle.rules.specs.Layout.{Link, pair-number}
-use Rattle.rules.specs.Table.{read, number-of, says}
+use Rattle.rules.specs.Table.{says}
+use Rattle.rules.specs.Demand1.{IsAccepted}
 use Rattle.rules.specs.Pairs.{differing}
 use Rattle.rules.proofs.Acceptance.{obeys}
 use Rattle.links.specs.Links.{next-numbers, place-in, Tells}
@@ -24,10 +25,10 @@ module _ (bytes : List ℕ) (place : ℕ) (r : NextLink) where
   front-told : Tells bytes place r → front-of (next-numbers r) (place-in place r) ≡ front-at bytes place
   front-told t = rw (t .0, t .1)
 
-  pub front-one : (a b weight next : ℕ) → r ≡ One a b weight next → Tells bytes place r
-      → record { pair = a * 256 + b; weight = weight; behind = next } ≡ front-at bytes place
+  pub front-one : (a b weight next pair : ℕ) → r ≡ One a b weight next → pair ≡ a * 256 + b → Tells bytes place r
+      → record { pair = pair; weight = weight; behind = next } ≡ front-at bytes place
   unfolding front-of next-numbers place-in
-  front-one a b weight next e t = rw e at (front-told t)
+  front-one a b weight next pair e p t = rw p (rw e at (front-told t))
 
   pub front-none : r ≡ NoMore → Tells bytes place r → record { pair = no-pair; weight = 0; behind = place } ≡ front-at bytes place
   unfolding front-of next-numbers place-in
@@ -106,7 +107,7 @@ module _ (old new : List ℕ) where
     counted : count + differ-in os ns ≡ differing (says old) (says new)
     few : differing (says old) (says new) ≤ 512
 
-  pub starts : (i k : ℕ) (o n : Front) → number-of (read old) ≡ 0 → number-of (read new) ≡ 0 → i ≡ links-start old → k ≡ links-start new
+  pub starts : (i k : ℕ) (o n : Front) → IsAccepted old → IsAccepted new → i ≡ links-start old → k ≡ links-start new
       → o ≡ front-at old i → n ≡ front-at new k → Walk o n 0
   starts i k o n a b s t p q = record {
     os = says old .links;

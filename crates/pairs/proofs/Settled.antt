@@ -6,11 +6,10 @@ use Prim.Native.Nat.{ℕ}
 use Rattle.rules.specs.Promises.{Settles}
 use Rattle.pairs.specs.declared.Pairing.{Pairing}
 use Rattle.pairs.specs.declared.Pairing.the-variants.{Accepted, Refused}
-use Rattle.pairs.specs.Pairings.{pairing-numbers, Paired}
-use Rattle.pairs.proofs.Answers.{Promise}
+use Rattle.pairs.specs.Pairings.{pairing-numbers, Outlines, Pairs}
 
 -- answers with the tables' own outlines, and refusals with a number, are told apart by their numbers
-pub pairing-apart : (old new : List ℕ) (x y : Pairing) → Paired old new x → Paired old new y → pairing-numbers x ≡ pairing-numbers y → x ≡ y
+pub pairing-apart : (old new : List ℕ) (x y : Pairing) → Outlines old new x → Outlines old new y → pairing-numbers x ≡ pairing-numbers y → x ≡ y
 unfolding pairing-numbers
 pairing-apart old new (Accepted differ o n) (Accepted differ′ o′ n′) p q e =
     λ i. Accepted (e i .values .differ) ((p .0 ∙ sym (q .0)) i) ((p .1 ∙ sym (q .1)) i)
@@ -19,5 +18,5 @@ pairing-apart old new (Refused number table place) (Accepted differ o n) p q e =
 pairing-apart old new (Refused number table place) (Refused number′ table′ place′) p q e =
     λ i. Refused (e i .refusal .number) (e i .refusal .table) (e i .refusal .place)
 
-pub pair-settled : (old new : List ℕ) → Settles (Promise old new)
+pub pair-settled : (old new : List ℕ) → Settles (Pairs old new)
 pair-settled old new x y p q = pairing-apart old new x y (p .1) (q .1) (p .0 ∙ sym (q .0))

@@ -19,6 +19,6 @@ front-of next behind = record { pair = pick (next .more =? 0) no-pair (pair-numb
 abbrev pub front-at : List ℕ → ℕ → Front
 front-at bytes place = front-of (link-at bytes place) (behind bytes place)
 
--- 1 for two weights that differ, 0 for one weight
+-- 1 where two weights differ, else 0
 abbrev pub differ-by : ℕ → ℕ → ℕ
 differ-by old new = pick (old =? new) 0 1

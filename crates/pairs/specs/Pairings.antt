@@ -2,8 +2,7 @@
 use mathlib.Core.Path.{_≡_}
 use mathlib.Core.List.{List}
 use Prim.Native.Nat.{ℕ}
-use Rattle.rules.specs.Questions.{Answer, Pairing}
-use Rattle.tables.specs.Answers.{answered, refused-with, IsNumber}
+use Rattle.rules.specs.Questions.{Answer, answered, refused-with, IsNumber, Pairing, pair-answer}
 use Rattle.tables.specs.Readings.{outline-of}
 use Rattle.pairs.specs.declared.Pairing.{Pairing as PairingHere}
 use Rattle.pairs.specs.declared.Pairing.the-variants.{Accepted, Refused}
@@ -14,6 +13,10 @@ pairing-numbers (Accepted differ old new) = answered (record { routers = new .ro
 pairing-numbers (Refused number table place) = refused-with (record { routers = 0; differ = 0 }) number table place
 
 -- the outlines are the tables' own; a refusal has a number
-abbrev pub Paired : List ℕ → List ℕ → PairingHere → Type 0
-Paired old new (Accepted differ o n) = (o ≡ outline-of old) × (n ≡ outline-of new)
-Paired old new (Refused number table place) = IsNumber number
+abbrev pub Outlines : List ℕ → List ℕ → PairingHere → Type 0
+Outlines old new (Accepted differ o n) = (o ≡ outline-of old) × (n ≡ outline-of new)
+Outlines old new (Refused number table place) = IsNumber number
+
+-- r answers the question about two tables together
+abbrev pub Pairs : List ℕ → List ℕ → PairingHere → Type 0
+Pairs old new r = (pairing-numbers r ≡ pair-answer old new) × Outlines old new r

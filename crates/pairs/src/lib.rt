@@ -1,15 +1,16 @@
 // Two tables together: how many links differ, and number 8.
 ghost use mathlib.Core.Path.{_≡_};
-ghost use Rattle.rules.specs.Table.{read, number-of, says};
+ghost use Rattle.rules.specs.Table.{says};
 ghost use Rattle.rules.specs.Pairs.{differing};
-ghost use Rattle.rules.specs.Questions.{pair-answer};
+ghost use Rattle.rules.specs.Demand1.{IsAccepted};
 ghost use Rattle.tables.specs.Readings.{links-start, outline-of};
 ghost use Rattle.pairs.specs.Fronts.{front-at, differ-by};
-ghost use Rattle.pairs.specs.Pairings.{pairing-numbers, Paired};
+ghost use Rattle.pairs.specs.Pairings.{Pairs};
 use links::NextLink;
 use links::link_at;
 use tables::Outline;
 use tables::Reading;
+use tables::joined;
 use tables::read;
 
 // The answer: how many links differ, 0 or 1, and what each table holds; or a number, which table (0 the old, 1 the new) and a place.
@@ -47,7 +48,7 @@ fn front_at(table: &[u8], place: usize) -> Front
             weight,
             behind,
         } => Front {
-            pair: (a as u32) * 256 + (b as u32),
+            pair: joined(a, b) as u32,
             weight,
             behind,
         },
@@ -59,7 +60,7 @@ fn front_at(table: &[u8], place: usize) -> Front
     }
 }
 
-// 1 for two weights that differ, 0 for one weight.
+// 1 where two weights differ, else 0.
 fn changed(old: u16, new: u16) -> u16
     ensures { λ r. ⌜ r ≡ differ-by old new ⌝ }
 {
@@ -71,7 +72,7 @@ fn changed(old: u16, new: u16) -> u16
 
 // How many links differ. The links start at i in the old table and at k in the new, and both rise: of two pairs in front the lower is in one table only.
 fn count_differing(old: &[u8], i: usize, new: &[u8], k: usize) -> u16
-    requires { ⌜ (number-of (read (now old)) ≡ 0) × (number-of (read (now new)) ≡ 0)
+    requires { ⌜ IsAccepted (now old) × IsAccepted (now new)
         × (i ≡ links-start (now old)) × (k ≡ links-start (now new)) ⌝ }
     ensures { λ r. ⌜ r ≡ differing (says (now (old .entry))) (says (now (new .entry))) ⌝ }
 {
@@ -100,8 +101,8 @@ fn count_differing(old: &[u8], i: usize, new: &[u8], k: usize) -> u16
 
 // Two tables that are accepted, with what each holds: 8 for different N, or for more than one link that differs.
 fn compare(old: &[u8], o: Outline, new: &[u8], n: Outline) -> Pairing
-    requires { ⌜ (number-of (read (now old)) ≡ 0) × (number-of (read (now new)) ≡ 0) × (o ≡ outline-of (now old)) × (n ≡ outline-of (now new)) ⌝ }
-    ensures { λ r. ⌜ (pairing-numbers r ≡ pair-answer (now (old .entry)) (now (new .entry))) × Paired (now (old .entry)) (now (new .entry)) r ⌝ }
+    requires { ⌜ IsAccepted (now old) × IsAccepted (now new) × (o ≡ outline-of (now old)) × (n ≡ outline-of (now new)) ⌝ }
+    ensures { λ r. ⌜ Pairs (now (old .entry)) (now (new .entry)) r ⌝ }
 {
     if o.routers != n.routers {
         return Pairing::Refused {
@@ -127,7 +128,7 @@ fn compare(old: &[u8], o: Outline, new: &[u8], n: Outline) -> Pairing
 
 // Two tables together: each is read, the old one first, and then they are compared.
 pub fn pair(old: &[u8], new: &[u8]) -> Pairing
-    ensures { λ r. ⌜ (pairing-numbers r ≡ pair-answer (now (old .entry)) (now (new .entry))) × Paired (now (old .entry)) (now (new .entry)) r ⌝ }
+    ensures { λ r. ⌜ Pairs (now (old .entry)) (now (new .entry)) r ⌝ }
 {
     let first = read(old);
     match first {

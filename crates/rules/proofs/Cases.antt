@@ -63,7 +63,7 @@ unfolding answer
 decided k ls zeros values h e = first-at k ls h e
 
 -- a test that does not fail passes
-applies : {P : Type 0} (t : Bool) → (t ≡ false) ↔ P → ¬ P → t ≡ true
+pub applies : {P : Type 0} (t : Bool) → (t ≡ false) ↔ P → ¬ P → t ≡ true
 applies true f h = refl
 applies false f h = absurd (h (f .0 refl))
 
@@ -108,7 +108,7 @@ quiet-previous t i j = quiet-or (not (eqb j 255) && leb (t .routers) j) (eqb j i
         last false = refl
 
 -- two routers, each below its N; and two outputs with room for N
-quiet-routers : (m n i k : ℕ) → ((leb m i || leb n k) ≡ false) ↔ ((i < m) × (k < n))
+pub quiet-routers : (m n i k : ℕ) → ((leb m i || leb n k) ≡ false) ↔ ((i < m) × (k < n))
 quiet-routers m n i k = quiet-or (leb m i) (leb n k) (quiet-≤ m i) (quiet-≤ n k)
 
 quiet-room : (n a b : ℕ) → ((ltb a n || ltb b n) ≡ false) ↔ ((n ≤ a) × (n ≤ b))
@@ -124,7 +124,7 @@ quiet-entry t i j d =
     (λ e. let ((a, b), (c, f)) = r .0 e in (a, b, c, f), λ (a, b, c, f). r .1 ((a, b), (c, f)))
 
 -- two tables that go together
-quiet-pair : (old new : Table) → (too-different old new ≡ false) ↔ ((old .routers ≡ new .routers) × (differing old new ≤ 1))
+pub quiet-pair : (old new : Table) → (too-different old new ≡ false) ↔ ((old .routers ≡ new .routers) × (differing old new ≤ 1))
 unfolding too-different
 quiet-pair old new = (
   λ e.

@@ -1,9 +1,11 @@
 pub mod Basics
 pub mod Judging
 pub mod Records
+pub mod AtPlace
 pub mod Reading
 pub mod Acceptance
 pub mod Lengths
+pub mod Lines
 pub mod Refusals
 pub mod Names
 pub mod Cases

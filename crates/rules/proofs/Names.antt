@@ -18,6 +18,7 @@ use Rattle.rules.specs.Questions.{name-for, name-answer, name-part, two-
 use Rattle.rules.specs.Demand1.{PartsAreNames, PartsOfTwoAreNames}
 use Rattle.rules.proofs.Basics.{pick-t, pick-f, drop-take}
 use Rattle.rules.proofs.Judging.{size-in, Good, Judges, stops, ends, goes, judge-judges}
+use Rattle.rules.proofs.AtPlace.{left-behind}
 use Rattle.rules.proofs.Refusals.{gives-values}
 use Rattle.rules.proofs.Records.{length-contents}
 
@@ -39,8 +40,7 @@ module _ (bytes : List ℕ) where
   all-stand (stops q a b) e = tt
   all-stand {kept} {place} {left} (ends g t) e = (stands kept place left g e, tt)
   all-stand {kept} {place} {left} (goes {j = j} g t r) e =
-      let further : place + (3 + size-in left) ≡ place + 3 + size-in left = omega arith in
-      go j (all-stand r (ap (drop (3 + size-in left)) e ∙ drop-drop (3 + size-in left) place bytes ∙ ap (λ n. drop n bytes) further))
+      go j (all-stand r (left-behind bytes place left e))
     where
       go : (j : Judged) → All Stands (records-of j) → All Stands (records-of (followed-by (record-in place left) j))
       go (accepted rs end) h = (stands kept place left g e, h)

@@ -2,18 +2,16 @@
 -- Assumes nothing.
 use mathlib.Core.Path.{_≡_, refl, sym, _∙_, ap, ap₂, subst, subst₂}
 use mathlib.Core.Logic.{_≢_}
-use mathlib.Core.Bool.{Bool, true, false}
 use mathlib.Core.List.{List, [], _∷_, _++_, map, flatten, append-assoc, append-nil}
 use Prim.Native.Nat.{ℕ, _+_, _-_, _*_, _/_, _%_, _≤_, _<_}
 use native.Mathlib.Nat.{add-zero}
 use native.Mathlib.Omega.{arith}
-use lib.Dec.{ltb}
 use lib.ListN.{length, drop, length-append, drop-of-length-le}
-use borrow.Author.Tests.{ltb-false}
-use Rattle.rules.specs.Words.{pick, those, All, Rising}
+use Rattle.rules.specs.Words.{those, All, Rising}
 use Rattle.rules.specs.Layout.{Name, Link, Table, tag-routers, tag-name, tag-link, tag-end, Bytes, NameFits, LinkFits, pair-number, Placed, Obeys, record-bytes, name-bytes, link-bytes, written}
-use Rattle.rules.specs.Table.{byte, Record, name-of, link-of, key, Kept, nothing-kept, keep, record-in, Judged, accepted, refused, followed-by, judge, nothing-behind, read, number-of, records-of, routers-of, table-of, says}
+use Rattle.rules.specs.Table.{byte, Record, name-of, link-of, key, Kept, nothing-kept, keep, record-in, Judged, accepted, refused, followed-by, read, number-of, routers-of, table-of, says}
 use Rattle.rules.proofs.Basics.{All-map}
+use Rattle.rules.proofs.Refusals.{judged-whole}
 use Rattle.rules.proofs.Judging.{size-in, contents-in, Judges, stops, ends, goes, judge-judges}
 use Rattle.rules.proofs.Records.{
   Known,
@@ -317,16 +315,8 @@ whole {bytes} (goes {j = j} g e r) =
 
 -- accepted bytes say what obeys the rules, and are what it is written as
 pub accepted-whole : (bytes : List ℕ) → number-of (read bytes) ≡ 0 → Obeys (says bytes) × (Bytes bytes → bytes ≡ written (says bytes))
-unfolding read says
-accepted-whole bytes = go (judge bytes) (whole (judge-judges bytes))
-  where
-    Answer : Judged → Type 0
-    Answer j = number-of j ≡ 0 → Obeys (table-of (records-of j)) × (Bytes bytes → bytes ≡ written (table-of (records-of j)))
-
-    go : (j : Judged) → Whole bytes j → Answer (nothing-behind (length bytes) j)
-    go (refused number at) h = λ e. absurd (h e)
-    go (accepted rs end) h = to-end (ltb end (length bytes)) refl
-      where
-        to-end : (t : Bool) → ltb end (length bytes) ≡ t → Answer (pick t (refused 7 end) (accepted rs end))
-        to-end true l e = absurd (omega arith)
-        to-end false l e = (h .0, λ b. h .1 b (ltb-false end (length bytes) l))
+unfolding says
+accepted-whole bytes e =
+    let w = judged-whole bytes e in
+    let h : Whole bytes (accepted (w .records) (w .end)) = subst (Whole bytes) (w .judged-so) (whole (judge-judges bytes)) in
+    rw (w .read-so) (h .0, λ b. h .1 b (w .to-end))

@@ -1,6 +1,6 @@
 -- Each question is answered or refused by a number that its list names, a refusal changes no lent output, and names never count.
 -- Assumes nothing.
-use mathlib.Core.Path.{_≡_, refl, _∙_}
+use mathlib.Core.Path.{_≡_, refl, _∙_, ap}
 use mathlib.Core.Logic.{_≢_}
 use mathlib.Core.Bool.{Bool, true, false}
 use mathlib.Core.List.{List, [], _∷_, _++_, List·Memᴰ, List·Memᴰ·head, List·Memᴰ·tail as next, Memᴰ·append-right}
@@ -9,7 +9,7 @@ use native.Mathlib.Decide.{ℕ-discrete}
 use native.Mathlib.Omega.{arith}
 use lib.Dec.{ltb}
 use lib.ListN.{length, drop}
-use borrow.Author.Tests.{ltb-true, lt-ltb, le-ltb, eq-eqb, ne-eqb}
+use borrow.Author.Tests.{ltb-true, ltb-false, eq-eqb, ne-eqb}
 use Rattle.rules.specs.Words.{pick, Line, _when_, first_otherwise_, All}
 use Rattle.rules.specs.Table.{Record, Kept, record-in, Judged, accepted, refused, followed-by, judge, nothing-behind, read, number-of, place-of}
 use Rattle.rules.specs.Pairs.{differing, too-different}
@@ -35,6 +35,7 @@ use Rattle.rules.specs.Questions.{
 }
 use Rattle.rules.specs.Demand1.{TableRefusals, table-numbers, RefusedBy, QuestionRefusals, LentOutputsStay, NamesNeverCount, of-table, TwoTablesFirst, TablesFirst}
 use Rattle.rules.proofs.Basics.{pick-t, pick-f}
+use Rattle.rules.proofs.Lines.{table-bad, table-good}
 use Rattle.rules.proofs.Judging.{Judges, stops, ends, goes, judge-judges}
 
 -- what holds of all that an applying line gives, and of what stands behind `otherwise`, holds of the first that applies
@@ -77,6 +78,32 @@ read-by bytes = go (judge bytes) (judged-by (judge-judges bytes))
 
 pub table-refusals : TableRefusals
 table-refusals bytes number place e = rw e at (read-by bytes)
+
+-- accepted bytes: judging accepts them, and nothing stands behind the end record
+pub record JudgedWhole (bytes : List ℕ) : Type 0 where
+  pub records : List Record
+  pub end : ℕ
+  pub judged-so : judge bytes ≡ accepted records end
+  pub read-so : read bytes ≡ accepted records end
+  pub to-end : length bytes ≤ end
+
+pub judged-whole : (bytes : List ℕ) → number-of (read bytes) ≡ 0 → JudgedWhole bytes
+unfolding read
+judged-whole bytes e = go (judge bytes) refl (judged-by (judge-judges bytes))
+  where
+    go : (j : Judged) → judge bytes ≡ j → By-1-to-7 j → JudgedWhole bytes
+    go (refused number at) q h = absurd (omega (arith, e, ap (λ j. number-of (nothing-behind (length bytes) j)) q))
+    go (accepted rs end) q h = by (ltb end (length bytes)) refl
+      where
+        by : (t : Bool) → ltb end (length bytes) ≡ t → JudgedWhole bytes
+        by true b = absurd (omega (arith, e, ap (λ j. number-of (nothing-behind (length bytes) j)) q ∙ ap (λ t. number-of (pick t (refused 7 end) (accepted rs end))) b))
+        by false b = record {
+          records = rs;
+          end = end;
+          judged-so = q;
+          read-so = ap (nothing-behind (length bytes)) q ∙ ap (λ t. pick t (refused 7 end) (accepted rs end)) b;
+          to-end = ltb-false end (length bytes) b;
+        }
 
 -- ---- questions
 
@@ -133,10 +160,10 @@ by-number : {last-table : ℕ} {more : List ℕ} {number : ℕ} {t : Bool} → L
 by-number {number = number} m e = plain number (Memᴰ·append-right (0 ∷ table-numbers []) m)
 
 -- a question whose every line does so
-answered : {A : Type 0} (last-table : ℕ) (numbers : List ℕ) (refusals : List (Line Refusal)) (zeros values : A)
+by-lines : {A : Type 0} (last-table : ℕ) (numbers : List ℕ) (refusals : List (Line Refusal)) (zeros values : A)
     → All (Lists last-table numbers) refusals → RefusedBy last-table numbers zeros (answer refusals zeros values)
 unfolding answer
-answered last-table numbers refusals zeros values hs =
+by-lines last-table numbers refusals zeros values hs =
     let h = first-holds (Listed last-table numbers) refusals (refusal 0) hs (plain 0 here) in
     record {
       by-listed = h .by-listed;
@@ -149,21 +176,21 @@ answered last-table numbers refusals zeros values hs =
 pub question-refusals : QuestionRefusals
 unfolding read-answer pair-answer fill-answer entry-answer interfaces-answer path-answer name-answer two-names-answer
 question-refusals = record {
-  of-read = λ table. answered _ _ _ _ _ (by-table 0 table (omega arith), tt);
-  of-pair = λ old new. answered _ _ _ _ _ (by-table 0 old (omega arith), (by-table 1 new (omega arith), (by-number here, tt)));
-  of-fill = λ table d costs sets. answered _ _ _ _ _ (by-table 0 table (omega arith), (by-number here, (by-number (next here), tt)));
-  of-entry = λ table i j d. answered _ _ _ _ _ (by-table 0 table (omega arith), (by-number here, tt));
-  of-interfaces = λ table i out. answered _ _ _ _ _ (by-table 0 table (omega arith), (by-number here, (by-number (next here), tt)));
+  of-read = λ table. by-lines _ _ _ _ _ (by-table 0 table (omega arith), tt);
+  of-pair = λ old new. by-lines _ _ _ _ _ (by-table 0 old (omega arith), (by-table 1 new (omega arith), (by-number here, tt)));
+  of-fill = λ table d costs sets. by-lines _ _ _ _ _ (by-table 0 table (omega arith), (by-number here, (by-number (next here), tt)));
+  of-entry = λ table i j d. by-lines _ _ _ _ _ (by-table 0 table (omega arith), (by-number here, tt));
+  of-interfaces = λ table i out. by-lines _ _ _ _ _ (by-table 0 table (omega arith), (by-number here, (by-number (next here), tt)));
   of-path = λ old new s d views trace.
-      answered _ _ _ _ _ (
+      by-lines _ _ _ _ _ (
         by-table 0 old (omega arith),
         (
           by-table 1 new (omega arith),
           (by-number here, (by-number (next here), (by-number (next (next (next here))), (by-number (next (next here)), tt)))),
         ),
       );
-  of-name = λ table i. answered _ _ _ _ _ (by-table 0 table (omega arith), (by-number here, tt));
-  of-two-names = λ old new i. answered _ _ _ _ _ (by-table 0 old (omega arith), (by-table 1 new (omega arith), (by-number here, tt)));
+  of-name = λ table i. by-lines _ _ _ _ _ (by-table 0 table (omega arith), (by-number here, tt));
+  of-two-names = λ old new i. by-lines _ _ _ _ _ (by-table 0 old (omega arith), (by-table 1 new (omega arith), (by-number here, tt)));
 }
 
 -- ---- which table
@@ -171,18 +198,14 @@ question-refusals = record {
 -- a refused table that comes first is named
 first-table : {A : Type 0} (which : ℕ) (bytes : List ℕ) (ls : List (Line Refusal)) (zeros values : A) → number-of (read bytes) ≢ 0
     → answer (table-refusal which bytes ∷ ls) zeros values .refusal ≡ of-table which bytes
-unfolding answer table-refusal
-first-table which bytes ls zeros values h = pick-t _ _ _ (lt-ltb 0 (number-of (read bytes)) (omega arith))
+first-table which bytes ls zeros values h = ap (λ a. a .refusal) (table-bad zeros values which bytes ls _ _ refl refl h)
 
 -- the new one behind an old one that is accepted
 both-tables : {A : Type 0} (old new : List ℕ) (ls : List (Line Refusal)) (zeros values : A)
     → TwoTablesFirst old new (answer (table-refusal 0 old ∷ table-refusal 1 new ∷ ls) zeros values)
-unfolding answer table-refusal
 both-tables old new ls zeros values = (
   first-table 0 old (table-refusal 1 new ∷ ls) zeros values,
-  λ a h.
-      pick-f _ _ _ (le-ltb 0 (number-of (read old)) (omega arith))
-      ∙ pick-t _ _ _ (lt-ltb 0 (number-of (read new)) (omega arith)),
+  λ a h. ap (λ a. a .refusal) (table-good zeros values 0 old (table-refusal 1 new ∷ ls) a) ∙ first-table 1 new ls zeros values h,
 )
 
 pub tables-first : TablesFirst

@@ -1,5 +1,6 @@
 -- Each whole question: its answer, with the list of its refusals in their order, and what each lent output holds afterwards. A question is refused
 -- in the cases of its list and in no others.
+use mathlib.Core.Logic.{_≢_}
 use mathlib.Core.Bool.{Bool, _&&_, _||_, not}
 use mathlib.Core.List.{List, [], _∷_, _++_, map}
 use mathlib.Core.Option.{Option}
@@ -35,6 +36,17 @@ table-refusal which bytes = record { number = number-of (read bytes); table = wh
 pub record Answer (A : Type 0) : Type 0 where
   pub refusal : Refusal
   pub values : A
+
+-- an answer that is no refusal; and a refusal, all whose other numbers are 0
+abbrev pub answered : {A : Type 0} → A → Answer A
+answered values = record { refusal = refusal 0; values = values }
+
+abbrev pub refused-with : {A : Type 0} → A → ℕ → ℕ → ℕ → Answer A
+refused-with zeros number table place = record { refusal = record { number = number; table = table; place = place }; values = zeros }
+
+-- the number of a refusal is not 0, which stands for none
+abbrev pub IsNumber : ℕ → Type 0
+IsNumber number = number ≢ 0
 
 -- The first refusal that applies decides, and all other numbers are then 0; where none applies the values are given.
 unfoldable pub answer : {A : Type 0} → List (Line Refusal) → A → A → Answer A

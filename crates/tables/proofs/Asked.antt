@@ -1,57 +1,25 @@
--- What the reading question's answer tells of the bytes, and the list of a question's refusals, one line at a time.
+-- What the reading question answers, from what judging tells; and what its answer tells of the bytes.
 -- Assumes nothing.
 use mathlib.Core.Path.{_≡_, refl, sym, _∙_, ap, ap₂, subst}
 use mathlib.Core.Logic.{_≢_}
-use mathlib.Core.Bool.{true, false}
 use mathlib.Core.List.{List, [], _∷_}
 use Prim.Native.Nat.{ℕ, _+_, _-_, _*_, _≤_, _<_}
 use native.Mathlib.Omega.{arith}
 use lib.ListN.{length}
-use borrow.Author.Tests.{ne-eqb, lt-ltb, le-ltb}
-use Rattle.rules.specs.Words.{Line}
+use borrow.Author.Tests.{lt-ltb, le-ltb}
 use Rattle.rules.specs.Layout.{Table}
 use Rattle.rules.specs.Table.{Record, Judged, accepted, refused, judge, nothing-behind, read, number-of, place-of, records-of, table-of, says}
-use Rattle.rules.specs.Questions.{Refusal, refusal, answer, table-refusal, Reading, read-answer}
+use Rattle.rules.specs.Demand1.{IsAccepted}
+use Rattle.rules.specs.Questions.{refusal, answer, answered, table-refusal, Reading, read-answer}
 use Rattle.rules.proofs.Basics.{pick-t, pick-f}
+use Rattle.rules.proofs.Lines.{no-line, table-bad, table-good}
 use Rattle.rules.proofs.Refusals.{table-refusals}
-use Rattle.tables.specs.Answers.{answered, refused-with}
-use Rattle.tables.specs.Readings.{judged-of, links-place, links-start, reading-numbers, outline-of, Outlined}
+use Rattle.tables.specs.Readings.{judged-of, links-place, links-start, reading-numbers, outline-of, Reads}
 use Rattle.tables.specs.declared.Judged.the-variants as here
 use Rattle.tables.specs.declared.Outline.{Outline}
 use Rattle.tables.specs.declared.Reading.{Reading as ReadingHere}
 use Rattle.tables.specs.declared.Reading.the-variants.{Accepted, Refused}
 use Rattle.tables.proofs.Places.{judged-ends}
-
--- ---- the list of a question's refusals, line by line
-
-module _ {A : Type 0} where
-  pub line-applies : (l : Line Refusal) (ls : List (Line Refusal)) (zeros values : A) → l .applies ≡ true → l .gives .number ≢ 0
-      → answer (l ∷ ls) zeros values ≡ record { refusal = l .gives; values = zeros }
-  unfolding answer
-  line-applies l ls zeros values e n = rw (e, ne-eqb (l .gives .number) 0 n)
-
-  pub line-passes : (l : Line Refusal) (ls : List (Line Refusal)) (zeros values : A) → l .applies ≡ false
-      → answer (l ∷ ls) zeros values ≡ answer ls zeros values
-  unfolding answer
-  line-passes l ls zeros values e = rw e
-
-  pub no-line : (zeros values : A) → answer [] zeros values ≡ answered values
-  unfolding answer
-  no-line zeros values = refl
-
-  pub table-bad : (which : ℕ) (bytes : List ℕ) (number place : ℕ) (ls : List (Line Refusal)) (zeros values : A)
-      → number-of (read bytes) ≡ number → place-of (read bytes) ≡ place → number ≢ 0
-      → answer (table-refusal which bytes ∷ ls) zeros values ≡ refused-with zeros number which place
-  unfolding table-refusal
-  table-bad which bytes number place ls zeros values n p h =
-      line-applies (table-refusal which bytes) ls zeros values (lt-ltb 0 (number-of (read bytes)) (rw n (omega arith))) (λ e. h (sym n ∙ e))
-      ∙ ap₂ (λ n p. refused-with zeros n which p) n p
-
-  pub table-good : (which : ℕ) (bytes : List ℕ) (ls : List (Line Refusal)) (zeros values : A) → number-of (read bytes) ≡ 0
-      → answer (table-refusal which bytes ∷ ls) zeros values ≡ answer ls zeros values
-  unfolding table-refusal
-  table-good which bytes ls zeros values e =
-      line-passes (table-refusal which bytes) ls zeros values (le-ltb 0 (number-of (read bytes)) (omega (arith, e)))
 
 -- ---- the reading question, from what judging tells
 
@@ -62,32 +30,28 @@ module _ (bytes : List ℕ) where
   abbrev values : Reading
   values = record { routers = says bytes .routers; links = length (says bytes .links) }
 
-  -- what is promised of a reading
-  abbrev pub Promise : ReadingHere → Type 0
-  Promise r = (reading-numbers r ≡ read-answer bytes) × Outlined bytes r
-
-  refused-reads : (number place : ℕ) → read bytes ≡ refused number place → Promise (Refused number place)
+  refused-reads : (number place : ℕ) → read bytes ≡ refused number place → Reads bytes (Refused number place)
   unfolding reading-numbers read-answer
-  refused-reads number place e = (sym (table-bad 0 bytes number place [] none values (ap number-of e) (ap place-of e) n), n)
+  refused-reads number place e = (sym (table-bad none values 0 bytes [] number place (ap number-of e) (ap place-of e) n), n)
     where
       n : number ≢ 0
       n z = omega (arith, z, table-refusals bytes number place e)
 
   accepted-reads : (rs : List Record) (end : ℕ) → read bytes ≡ accepted rs end
-      → Promise (Accepted (record { routers = table-of rs .routers; links = length (table-of rs .links); start = links-place rs }))
+      → Reads bytes (Accepted (record { routers = table-of rs .routers; links = length (table-of rs .links); start = links-place rs }))
   unfolding reading-numbers read-answer says links-start
   accepted-reads rs end e =
       let t = ap (λ j. table-of (records-of j)) e in (
-        sym (table-good 0 bytes [] none values (ap number-of e) ∙ no-line none values
+        sym (table-good none values 0 bytes [] (ap number-of e) ∙ no-line none values
             ∙ ap (λ (t : Table). answered (record { routers = t .routers; links = length (t .links) })) t),
         sym (ap₂ (λ (t : Table) (start : ℕ). record { routers = t .routers; links = length (t .links); start = start }) t (ap (λ j. links-place (records-of j)) e)),
       )
 
-  pub refused-told : (number place : ℕ) → judged-of (judge bytes) ≡ here.Refused number place → Promise (Refused number place)
+  pub refused-told : (number place : ℕ) → judged-of (judge bytes) ≡ here.Refused number place → Reads bytes (Refused number place)
   unfolding judged-of read
   refused-told number place = go (judge bytes) refl
     where
-      go : (j : Judged) → judge bytes ≡ j → judged-of j ≡ here.Refused number place → Promise (Refused number place)
+      go : (j : Judged) → judge bytes ≡ j → judged-of j ≡ here.Refused number place → Reads bytes (Refused number place)
       go (refused n p) e q = refused-reads number place (ap (nothing-behind (length bytes)) e ∙ same)
         where
           same : refused n p ≡ refused number place
@@ -97,8 +61,8 @@ module _ (bytes : List ℕ) where
   -- what an accepted table's end tells
   pub record Ended (routers links end : ℕ) : Type 0 where
     pub room : links * 7 + 3 ≤ end
-    pub behind : end < length bytes → Promise (Refused 7 end)
-    pub whole : length bytes ≤ end → Promise (Accepted (record { routers = routers; links = links; start = end - 3 - links * 7 }))
+    pub behind : end < length bytes → Reads bytes (Refused 7 end)
+    pub whole : length bytes ≤ end → Reads bytes (Accepted (record { routers = routers; links = links; start = end - 3 - links * 7 }))
 
   pub accepted-told : (routers links end : ℕ) → judged-of (judge bytes) ≡ here.Accepted routers links end → Ended routers links end
   unfolding judged-of read
@@ -110,7 +74,7 @@ module _ (bytes : List ℕ) where
         room = omega (arith, ends, c, l);
         behind = λ h. refused-reads 7 end (ap (nothing-behind (length bytes)) e ∙ pick-t _ _ _ (lt-ltb at (length bytes) (omega (arith, c))) ∙ ap (λ n. refused 7 n) c);
         whole = λ h.
-            subst Promise
+            subst (Reads bytes)
             (same a l (omega (arith, ends, c, l)))
             (accepted-reads rs at (ap (nothing-behind (length bytes)) e ∙ pick-f _ _ _ (le-ltb at (length bytes) (omega (arith, c)))));
       }
@@ -140,27 +104,27 @@ module _ (bytes : List ℕ) where
     where
       go : (j : Judged) → read bytes ≡ j → answer (table-refusal 0 bytes ∷ []) none values .refusal ≡ record { number = number-of (read bytes); table = 0; place = place-of (read bytes) }
       go (accepted rs end) e =
-          ap (λ a. a .refusal) (table-good 0 bytes [] none values (ap number-of e) ∙ no-line none values)
+          ap (λ a. a .refusal) (table-good none values 0 bytes [] (ap number-of e) ∙ no-line none values)
           ∙ sym (ap (λ j. record { number = number-of j; table = 0; place = place-of j }) e)
       go (refused number place) e =
-          ap (λ a. a .refusal) (table-bad 0 bytes number place [] none values (ap number-of e) (ap place-of e) (λ z. omega (arith, z, table-refusals bytes number place e)))
+          ap (λ a. a .refusal) (table-bad none values 0 bytes [] number place (ap number-of e) (ap place-of e) (λ z. omega (arith, z, table-refusals bytes number place e)))
           ∙ sym (ap (λ j. record { number = number-of j; table = 0; place = place-of j }) e)
 
-  told-refusal : (r : ReadingHere) → Promise r → reading-numbers r .refusal ≡ record { number = number-of (read bytes); table = 0; place = place-of (read bytes) }
+  told-refusal : (r : ReadingHere) → Reads bytes r → reading-numbers r .refusal ≡ record { number = number-of (read bytes); table = 0; place = place-of (read bytes) }
   told-refusal r p = ap (λ a. a .refusal) (p .0) ∙ own-refusal
 
-  pub reading-accepted : (r : ReadingHere) (t : Outline) → Promise r → r ≡ Accepted t → (number-of (read bytes) ≡ 0) × (t ≡ outline-of bytes)
+  pub reading-accepted : (r : ReadingHere) (t : Outline) → Reads bytes r → r ≡ Accepted t → (IsAccepted bytes) × (t ≡ outline-of bytes)
   unfolding reading-numbers
   reading-accepted r t p e = (sym (ap (λ f. f .number) (told-refusal (Accepted t) q)), q .1)
     where
-      q : Promise (Accepted t)
-      q = subst Promise e p
+      q : Reads bytes (Accepted t)
+      q = subst (Reads bytes) e p
 
-  pub reading-refused : (r : ReadingHere) (number place : ℕ) → Promise r → r ≡ Refused number place
+  pub reading-refused : (r : ReadingHere) (number place : ℕ) → Reads bytes r → r ≡ Refused number place
       → (number-of (read bytes) ≡ number) × (place-of (read bytes) ≡ place) × (number ≢ 0)
   unfolding reading-numbers
   reading-refused r number place p e =
       (sym (ap (λ f. f .number) (told-refusal (Refused number place) q)), sym (ap (λ f. f .place) (told-refusal (Refused number place) q)), q .1)
     where
-      q : Promise (Refused number place)
-      q = subst Promise e p
+      q : Reads bytes (Refused number place)
+      q = subst (Reads bytes) e p

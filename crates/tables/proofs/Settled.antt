@@ -9,13 +9,12 @@ use Rattle.rules.specs.Table.{Kept, Step, good, bad, step, judge}
 use Rattle.rules.specs.Promises.{Settles}
 use Rattle.rules.proofs.Uniqueness.{value-settled, equations-settle}
 use Rattle.tables.specs.Steps.{step-of}
-use Rattle.tables.specs.Readings.{judged-of, reading-numbers, Outlined}
+use Rattle.tables.specs.Readings.{judged-of, reading-numbers, Outlined, Reads}
 use Rattle.tables.specs.declared.Step.{Step as StepHere}
 use Rattle.tables.specs.declared.Step.the-variants as here
 use Rattle.tables.specs.declared.Judged.{Judged as JudgedHere}
 use Rattle.tables.specs.declared.Reading.{Reading}
 use Rattle.tables.specs.declared.Reading.the-variants.{Accepted, Refused}
-use Rattle.tables.proofs.Asked.{Promise}
 
 pub joined-settled : (high low : ℕ) → Settles (λ (r : ℕ). r ≡ high * 256 + low)
 joined-settled high low = value-settled (high * 256 + low)
@@ -59,5 +58,5 @@ reading-apart bytes (Refused number place) (Refused number′ place′) p q e =
     let z : place ≡ place′ = ap (λ a. a .refusal .place) e in
     rw (n, z)
 
-pub read-settled : (bytes : List ℕ) → Settles (Promise bytes)
+pub read-settled : (bytes : List ℕ) → Settles (Reads bytes)
 read-settled bytes x y p q = reading-apart bytes x y (p .1) (q .1) (p .0 ∙ sym (q .0))

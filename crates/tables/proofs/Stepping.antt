@@ -9,12 +9,13 @@ use native.Mathlib.Nat.{add-zero}
 use native.Mathlib.Omega.{arith}
 use lib.Dec.{eqb, leb}
 use lib.ListN.{length, take, drop, length-drop}
-use lib.Seq.{length-take-le, getD-drop, drop-drop}
+use lib.Seq.{length-take-le, drop-drop}
 use borrow.Author.Tests.{eq-eqb, ne-eqb, lt-ltb, le-ltb, le-leb, lt-leb}
 use Rattle.rules.specs.Words.{pick}
 use Rattle.rules.specs.Layout.{tag-routers, tag-link}
 use Rattle.rules.specs.Table as Rules
 use Rattle.rules.specs.Table.{byte, two-bytes, length-allowed, contents-fit, key, Kept, keep, bad-tag, not-above, too-many, record-in, Step, good, bad, step}
+use Rattle.rules.proofs.AtPlace.{tag-there, size-there}
 use Rattle.tables.specs.Steps.{step-of, contents-number, record-with}
 use Rattle.tables.specs.declared.Step.the-variants.{Record, Refused}
 
@@ -107,13 +108,6 @@ module _ (bytes : List ℕ) (place : ℕ) (kept : Kept) where
   abbrev left : List ℕ
   left = drop place bytes
 
-  -- what the header says, at its place
-  tag-there : byte left 0 ≡ byte bytes place
-  tag-there = getD-drop place bytes 0 0 ∙ ap (byte bytes) (add-zero place)
-
-  size-there : two-bytes left 1 ≡ byte bytes (place + 1) * 256 + byte bytes (place + 2)
-  size-there = ap₂ (λ h l. h * 256 + l) (getD-drop place bytes 1 0) (getD-drop place bytes 2 0)
-
   pub step-header : length bytes < place + 3 → step-of bytes place (Refused 1 place) ≡ step kept place left
   unfolding step-of
   step-header h = header-cut kept place left (rw (length-drop place bytes) (omega arith))
@@ -124,17 +118,17 @@ module _ (bytes : List ℕ) (place : ℕ) (kept : Kept) where
 
     pub step-tag : bad-tag kept (byte bytes place) ≡ true → step-of bytes place (Refused 2 place) ≡ step kept place left
     unfolding step-of
-    step-tag t = tag-bad kept place left long (ap (bad-tag kept) tag-there ∙ t)
+    step-tag t = tag-bad kept place left long (ap (bad-tag kept) (tag-there bytes place left refl) ∙ t)
 
     module _ (t : bad-tag kept (byte bytes place) ≡ false) (size : ℕ) (q : size ≡ byte bytes (place + 1) * 256 + byte bytes (place + 2)) where
       in-order : bad-tag kept (byte left 0) ≡ false
-      in-order = ap (bad-tag kept) tag-there ∙ t
+      in-order = ap (bad-tag kept) (tag-there bytes place left refl) ∙ t
 
       size-is : two-bytes left 1 ≡ size
-      size-is = size-there ∙ sym q
+      size-is = size-there bytes place left refl ∙ sym q
 
       allowed-is : length-allowed (byte left 0) (two-bytes left 1) ≡ length-allowed (byte bytes place) size
-      allowed-is = ap₂ length-allowed tag-there size-is
+      allowed-is = ap₂ length-allowed (tag-there bytes place left refl) size-is
 
       pub step-length : length-allowed (byte bytes place) size ≡ false → step-of bytes place (Refused 3 place) ≡ step kept place left
       unfolding step-of
@@ -161,7 +155,7 @@ module _ (bytes : List ℕ) (place : ℕ) (kept : Kept) where
                 × (number ≡ 0 → good (record-in place left) (place + 3 + two-bytes left 1) ≡ step kept place left)
             cases =
                 decided kept place left long in-order (allowed-is ∙ s) (rw (length-drop place bytes, size-is) (omega arith)) number
-                (e ∙ sym (ap₂ (contents-number kept) tag-there contents-there))
+                (e ∙ sym (ap₂ (contents-number kept) (tag-there bytes place left refl) contents-there))
 
             pub step-number : number ≢ 0 → step-of bytes place (Refused number place) ≡ step kept place left
             unfolding step-of
@@ -171,7 +165,7 @@ module _ (bytes : List ℕ) (place : ℕ) (kept : Kept) where
             unfolding step-of
             step-record n =
                 sym (ap₂ (λ (r : Rules.Record) (end : ℕ). good r end)
-                (ap₂ (λ (t : ℕ) (c : List ℕ). record { place = place; tag = t; contents = c }) tag-there contents-there) (ap (λ n. place + 3 + n) size-is))
+                (ap₂ (λ (t : ℕ) (c : List ℕ). record { place = place; tag = t; contents = c }) (tag-there bytes place left refl) contents-there) (ap (λ n. place + 3 + n) size-is))
                 ∙ cases .1 n
 
 -- ---- what is kept behind a record

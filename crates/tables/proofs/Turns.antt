@@ -9,13 +9,13 @@ use native.Mathlib.Omega.{arith}
 use native.Mathlib.Nat.{add-zero}
 use lib.Dec.{eqb, leb}
 use lib.ListN.{length, drop, length-drop}
-use lib.Seq.{drop-drop}
 use borrow.Author.Tests.{leb-false, eq-eqb, ne-eqb}
 use Rattle.rules.specs.Words.{pick, those}
 use Rattle.rules.specs.Layout.{Link, tag-routers, tag-link, tag-end}
 use Rattle.rules.specs.Table.{byte, link-of, Record, Kept, nothing-kept, keep, length-allowed, too-many, record-in, Step, good, step, Judged, accepted, refused, followed-by, judge-from, judge, routers-of, table-of}
 use Rattle.rules.proofs.Basics.{pick-t, pick-f}
 use Rattle.rules.proofs.Judging.{size-in, contents-in, Good, Steps, gives, refuses, steps, Judges, stops, ends, goes, judges, judged, judge-stops, judge-ends, judge-goes, judge-judges}
+use Rattle.rules.proofs.AtPlace.{left-behind, whole-there}
 use Rattle.rules.proofs.Records.{tag-order, length-contents}
 use Rattle.tables.specs.Steps.{record-from, step-of, record-with}
 use Rattle.tables.specs.Readings.{judged-of, refusal-in}
@@ -136,7 +136,7 @@ module _ (bytes : List ℕ) (place : ℕ) (kept : Kept) where
 
   module _ (tag end : ℕ) (f : Found bytes place kept tag end) where
     pub found-inside : (place + 3 ≤ end) × (end ≤ length bytes)
-    found-inside = omega (arith, f .end-there, f .good-there .headed, f .good-there .whole, length-drop place bytes)
+    found-inside = omega (arith, f .end-there, whole-there bytes place left refl (f .good-there))
 
     pub found-length : length-allowed tag (length (record-from bytes place tag end .contents)) ≡ true
     found-length =
@@ -178,11 +178,8 @@ module _ (bytes : List ℕ) (place : ℕ) (kept : Kept) where
         ∙ moved (keep kept (record-in place left)) (place + 3 + size-in left) (drop (3 + size-in left) left)
         (ap₂ (λ (t : ℕ) (c : List ℕ). keep kept (record-with t c)) (f .tag-there) (f .contents-there))
         (sym (f .end-there))
-        (drop-drop (3 + size-in left) place bytes ∙ ap (λ n. drop n bytes) behind))
+        (left-behind bytes place left refl ∙ ap (λ n. drop n bytes) (sym (f .end-there))))
       where
-        behind : place + (3 + size-in left) ≡ end
-        behind = omega (arith, f .end-there)
-
         told-on : (r : Record) (j : Judged) → told kept (followed-by r j) ≡ told (keep kept r) j
         told-on r (accepted rs end) = refl
         told-on r (refused number at) = refl

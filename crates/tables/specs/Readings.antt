@@ -6,8 +6,7 @@ use lib.ListN.{length}
 use Rattle.rules.specs.Words.{_<?_, pick}
 use Rattle.rules.specs.Layout.{tag-link}
 use Rattle.rules.specs.Table.{Record, Judged, accepted, refused, read, records-of, table-of, says}
-use Rattle.rules.specs.Questions.{Answer, Reading}
-use Rattle.tables.specs.Answers.{answered, refused-with, IsNumber}
+use Rattle.rules.specs.Questions.{Answer, answered, refused-with, IsNumber, Reading, read-answer}
 use Rattle.tables.specs.declared.Step.{Step as StepHere}
 use Rattle.tables.specs.declared.Step.the-variants as step
 use Rattle.tables.specs.declared.Judged.{Judged as JudgedHere}
@@ -21,7 +20,7 @@ unfoldable pub judged-of : Judged → JudgedHere
 judged-of (accepted rs end) = judged.Accepted (table-of rs .routers) (length (table-of rs .links)) end
 judged-of (refused number place) = judged.Refused number place
 
--- the refusal that a step gave
+-- the refusal that a step gave; no other step is asked for one
 unfoldable pub refusal-in : StepHere → JudgedHere
 refusal-in (step.Record tag end) = judged.Refused 0 end
 refusal-in (step.Refused number place) = judged.Refused number place
@@ -48,3 +47,7 @@ outline-of bytes = record { routers = says bytes .routers; links = length (says 
 abbrev pub Outlined : List ℕ → ReadingHere → Type 0
 Outlined bytes (Accepted t) = t ≡ outline-of bytes
 Outlined bytes (Refused number place) = IsNumber number
+
+-- r is what the reading question answers to these bytes
+abbrev pub Reads : List ℕ → ReadingHere → Type 0
+Reads bytes r = (reading-numbers r ≡ read-answer bytes) × Outlined bytes r

@@ -7,17 +7,16 @@ ghost use Rattle.rules.specs.Words.{_=?_, _≤?_, every};
 ghost use Rattle.rules.specs.Layout.{tag-routers, tag-name, tag-link};
 ghost use Rattle.rules.specs.Table.{byte, bad-tag, length-allowed, name-byte, name-fits, link-fits, link-of, key, keep, step};
 ghost use Rattle.rules.specs.Table as Table;
-ghost use Rattle.rules.specs.Questions.{read-answer};
 ghost use Rattle.tables.specs.Steps.{kept-of, step-of, contents-number, record-with};
-ghost use Rattle.tables.specs.Readings.{judged-of, refusal-in, reading-numbers, Outlined};
+ghost use Rattle.tables.specs.Readings.{judged-of, refusal-in, Reads};
 
-const ROUTERS: u8 = 0x01;
+pub const ROUTERS: u8 = 0x01;
 
-const NAME: u8 = 0x02;
+pub const NAME: u8 = 0x02;
 
-const LINK: u8 = 0x04;
+pub const LINK: u8 = 0x04;
 
-const END: u8 = 0x7F;
+pub const END: u8 = 0x7F;
 
 // What is kept of the records before: N, the last tag, the last router or pair, the number of links. All are 0 before the first record.
 pub struct Kept {
@@ -340,7 +339,7 @@ pub fn judge(table: &[u8]) -> Judged
 
 // The reading question: a whole byte string, behind whose end record nothing may stand.
 pub fn read(table: &[u8]) -> Reading
-    ensures { λ r. ⌜ (reading-numbers r ≡ read-answer (now (table .entry))) × Outlined (now (table .entry)) r ⌝ }
+    ensures { λ r. ⌜ Reads (now (table .entry)) r ⌝ }
 {
     let judged = judge(table);
     match judged {

@@ -3,7 +3,7 @@
 use mathlib.Core.Path.{refl}
 use native.Mathlib.Omega.{arith}
 use borrow.Author.Needs.{needs}
-use Rattle.links.proofs.Place.{there, cut, other, tells-none, tells-one}
+use Rattle.links.proofs.Place.{there, cut, other, other-length, tells-none, tells-one}
 use Rattle.links.proofs.link_at.Statement.{statement}
 use Rattle.links.proofs.link_at.Tie as tie
 
@@ -18,18 +18,6 @@ shared-slice-read-if3 c = search needs
 
 returns-3 : tie.Need-returns-3
 returns-3 c = tells-none _ _ (other _ _ (c .if3 .taken))
-
-add-t5 : tie.Need-add-t5
-add-t5 c = search needs
-
-shared-slice-read-t7 : tie.Need-shared-slice-read-t7
-shared-slice-read-t7 c = search needs
-
-add-t9 : tie.Need-add-t9
-add-t9 c = search needs
-
-shared-slice-read-t11 : tie.Need-shared-slice-read-t11
-shared-slice-read-t11 c = search needs
 
 add-joined : tie.Need-add-joined
 add-joined c = search needs
@@ -46,12 +34,44 @@ shared-slice-read-joined-2 c = search needs
 joined-requires : tie.Need-joined-requires
 joined-requires c κs = search needs
 
-add-t19 : tie.Need-add-t19
-add-t19 c = search needs
-
 returns-4 : tie.Need-returns-4
-returns-4 c =
-    tells-one _ _ _ _ _ (there _ _ (omega arith) (c .before .before .before .before .before .if3 .left)) refl refl (c .joined .ensures)
+returns-4 c = tells-none _ _ (other-length _ _ _ (c .before .joined .ensures) (c .if4 .taken))
+
+add-t5 : tie.Need-add-t5
+add-t5 c = search needs
+
+shared-slice-read-t7 : tie.Need-shared-slice-read-t7
+shared-slice-read-t7 c = search needs
+
+add-t10 : tie.Need-add-t10
+add-t10 c = search needs
+
+shared-slice-read-t12 : tie.Need-shared-slice-read-t12
+shared-slice-read-t12 c = search needs
+
+add-joined-3 : tie.Need-add-joined-3
+add-joined-3 c = search needs
+
+shared-slice-read-joined-3 : tie.Need-shared-slice-read-joined-3
+shared-slice-read-joined-3 c = search needs
+
+add-joined-4 : tie.Need-add-joined-4
+add-joined-4 c = search needs
+
+shared-slice-read-joined-4 : tie.Need-shared-slice-read-joined-4
+shared-slice-read-joined-4 c = search needs
+
+joined-requires-2 : tie.Need-joined-requires-2
+joined-requires-2 c κs = search needs
+
+add-t21 : tie.Need-add-t21
+add-t21 c = search needs
+
+returns-5 : tie.Need-returns-5
+returns-5 c =
+    let m = c .before .before .before .before .before in
+    tells-one _ _ _ _ _ (there _ _ _ (m .before .joined .ensures) (omega arith) (m .before .before .before .before .if3 .left) (m .if4 .left))
+    refl refl (c .joined2 .ensures)
 
 pub link-at-spec : {M : Type 1} → statement M
 link-at-spec =
@@ -61,14 +81,20 @@ link-at-spec =
     returns-2
     shared-slice-read-if3
     returns-3
-    add-t5
-    shared-slice-read-t7
-    add-t9
-    shared-slice-read-t11
     add-joined
     shared-slice-read-joined
     add-joined-2
     shared-slice-read-joined-2
     joined-requires
-    add-t19
-    returns-4)
+    returns-4
+    add-t5
+    shared-slice-read-t7
+    add-t10
+    shared-slice-read-t12
+    add-joined-3
+    shared-slice-read-joined-3
+    add-joined-4
+    shared-slice-read-joined-4
+    joined-requires-2
+    add-t21
+    returns-5)

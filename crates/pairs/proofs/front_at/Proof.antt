@@ -11,23 +11,17 @@ link-at-requires c κs = search needs
 enum-known-next : tie.Need-enum-known-next
 enum-known-next c = search needs
 
-cast-t9 : tie.Need-cast-t9
-cast-t9 c = search needs
+joined-requires : tie.Need-joined-requires
+joined-requires c κs = search needs
 
-mul-t10 : tie.Need-mul-t10
-mul-t10 c = search needs
-
-cast-t11 : tie.Need-cast-t11
-cast-t11 c = search needs
-
-add-t12 : tie.Need-add-t12
-add-t12 c = search needs
+cast-t10 : tie.Need-cast-t10
+cast-t10 c = search needs
 
 enum-told : tie.Need-enum-told
 enum-told c = search needs
 
 returns : tie.Need-returns
-returns c = front-one _ _ _ _ _ _ _ (c .before .next .given .1) (c .before .before .before .link-at .ensures)
+returns c = front-one _ _ _ _ _ _ _ _ (c .before .before .next .given .1) (c .joined .ensures) (c .before .before .before .before .link-at .ensures)
 
 returns-2 : tie.Need-returns-2
 returns-2 c = front-none _ _ _ (c .enum-told .given .1) (c .before .before .link-at .ensures)
@@ -38,10 +32,8 @@ front-at-spec =
     (tie.spec
     link-at-requires
     enum-known-next
-    cast-t9
-    mul-t10
-    cast-t11
-    add-t12
+    joined-requires
+    cast-t10
     enum-told
     returns
     returns-2)
