@@ -141,11 +141,11 @@ module _ (bytes : List ℕ) where
 -- ---- the answers of a list of links
 
 -- the first, and those behind it
-pub first-in : (l : Link) (ls : List Link) → link-in (l ∷ ls) 0 ≡ record { more = 1; link = l }
+first-in : (l : Link) (ls : List Link) → link-in (l ∷ ls) 0 ≡ record { more = 1; link = l }
 unfolding link-in
 first-in l ls = pick-t _ _ _ (lt-ltb 0 (suc (length ls)) (omega arith))
 
-pub later-in : (l : Link) (ls : List Link) (i : ℕ) → link-in (l ∷ ls) (suc i) ≡ link-in ls i
+later-in : (l : Link) (ls : List Link) (i : ℕ) → link-in (l ∷ ls) (suc i) ≡ link-in ls i
 unfolding link-in
 later-in l ls i = go (decLt i (length ls))
   where

@@ -10,6 +10,7 @@ ghost use Rattle.rules.specs.Table as Table;
 ghost use Rattle.tables.specs.Steps.{kept-of, step-of, contents-number, record-with};
 ghost use Rattle.tables.specs.Readings.{judged-of, refusal-in, Reads};
 
+// The tags of the four kinds of records.
 pub const ROUTERS: u8 = 0x01;
 
 pub const NAME: u8 = 0x02;
