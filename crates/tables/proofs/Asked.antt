@@ -2,18 +2,18 @@
 -- Assumes nothing.
 use mathlib.Core.Path.{_≡_, refl, sym, _∙_, ap, ap₂, subst}
 use mathlib.Core.Logic.{_≢_}
-use mathlib.Core.List.{List, [], _∷_}
+use mathlib.Core.List.{List, []}
 use Prim.Native.Nat.{ℕ, _+_, _-_, _*_, _≤_, _<_}
 use native.Mathlib.Omega.{arith}
 use lib.ListN.{length}
 use borrow.Author.Tests.{lt-ltb, le-ltb}
 use Rattle.rules.specs.Layout.{Table}
 use Rattle.rules.specs.Table.{Record, Judged, accepted, refused, judge, nothing-behind, read, number-of, place-of, records-of, table-of, says}
-use Rattle.rules.specs.Demand1.{IsAccepted}
-use Rattle.rules.specs.Questions.{refusal, answer, answered, table-refusal, Reading, read-answer}
+use Rattle.rules.specs.Demand1.{IsAccepted, of-table}
+use Rattle.rules.specs.Questions.{refusal, answered, Reading, read-answer}
 use Rattle.rules.proofs.Basics.{pick-t, pick-f}
 use Rattle.rules.proofs.Lines.{no-line, table-bad, table-good}
-use Rattle.rules.proofs.Refusals.{table-refusals}
+use Rattle.rules.proofs.Refusals.{table-refusals, tables-first}
 use Rattle.tables.specs.Readings.{judged-of, links-place, links-start, reading-numbers, outline-of, Reads}
 use Rattle.tables.specs.declared.Judged.the-variants as here
 use Rattle.tables.specs.declared.Outline.{Outline}
@@ -24,12 +24,14 @@ use Rattle.tables.proofs.Places.{judged-ends}
 -- ---- the reading question, from what judging tells
 
 module _ (bytes : List ℕ) where
+  -- the zeros of a refusal, and the values of an answer
   abbrev none : Reading
   none = record { routers = 0; links = 0 }
 
   abbrev values : Reading
   values = record { routers = says bytes .routers; links = length (says bytes .links) }
 
+  -- what is read decides
   refused-reads : (number place : ℕ) → read bytes ≡ refused number place → Reads bytes (Refused number place)
   unfolding reading-numbers read-answer
   refused-reads number place e = (sym (table-bad none values 0 bytes [] number place (ap number-of e) (ap place-of e) n), n)
@@ -47,6 +49,7 @@ module _ (bytes : List ℕ) where
         sym (ap₂ (λ (t : Table) (start : ℕ). record { routers = t .routers; links = length (t .links); start = start }) t (ap (λ j. links-place (records-of j)) e)),
       )
 
+  -- judging refuses, and so does reading
   pub refused-told : (number place : ℕ) → judged-of (judge bytes) ≡ here.Refused number place → Reads bytes (Refused number place)
   unfolding judged-of read
   refused-told number place = go (judge bytes) refl
@@ -98,22 +101,21 @@ module _ (bytes : List ℕ) where
   -- ---- what a reading tells of the bytes
 
   -- the question's refusal is the table's
-  own-refusal : read-answer bytes .refusal ≡ record { number = number-of (read bytes); table = 0; place = place-of (read bytes) }
+  own-refusal : read-answer bytes .refusal ≡ of-table 0 bytes
   unfolding read-answer
   own-refusal = go (read bytes) refl
     where
-      go : (j : Judged) → read bytes ≡ j → answer (table-refusal 0 bytes ∷ []) none values .refusal ≡ record { number = number-of (read bytes); table = 0; place = place-of (read bytes) }
+      go : (j : Judged) → read bytes ≡ j → read-answer bytes .refusal ≡ of-table 0 bytes
       go (accepted rs end) e =
           ap (λ a. a .refusal) (table-good none values 0 bytes [] (ap number-of e) ∙ no-line none values)
           ∙ sym (ap (λ j. record { number = number-of j; table = 0; place = place-of j }) e)
-      go (refused number place) e =
-          ap (λ a. a .refusal) (table-bad none values 0 bytes [] number place (ap number-of e) (ap place-of e) (λ z. omega (arith, z, table-refusals bytes number place e)))
-          ∙ sym (ap (λ j. record { number = number-of j; table = 0; place = place-of j }) e)
+      go (refused number place) e = tables-first .of-read bytes (λ z. omega (arith, sym (ap number-of e) ∙ z, table-refusals bytes number place e))
 
-  told-refusal : (r : ReadingHere) → Reads bytes r → reading-numbers r .refusal ≡ record { number = number-of (read bytes); table = 0; place = place-of (read bytes) }
+  told-refusal : (r : ReadingHere) → Reads bytes r → reading-numbers r .refusal ≡ of-table 0 bytes
   told-refusal r p = ap (λ a. a .refusal) (p .0) ∙ own-refusal
 
-  pub reading-accepted : (r : ReadingHere) (t : Outline) → Reads bytes r → r ≡ Accepted t → (IsAccepted bytes) × (t ≡ outline-of bytes)
+  -- the answer by cases
+  pub reading-accepted : (r : ReadingHere) (t : Outline) → Reads bytes r → r ≡ Accepted t → IsAccepted bytes × (t ≡ outline-of bytes)
   unfolding reading-numbers
   reading-accepted r t p e = (sym (ap (λ f. f .number) (told-refusal (Accepted t) q)), q .1)
     where
