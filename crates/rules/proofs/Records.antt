@@ -2,7 +2,7 @@
 -- Assumes nothing.
 use mathlib.Core.Path.{_≡_, refl, sym, _∙_, ap, subst₂}
 use mathlib.Core.Logic.{_≢_}
-use mathlib.Core.Bool.{Bool, true, false, _&&_, _||_, not, false≢true}
+use mathlib.Core.Bool.{Bool, true, false, _&&_, _||_, not, and-false, false≢true}
 use mathlib.Core.List.{List, [], _∷_, _++_}
 use Prim.Native.Nat.{ℕ, suc, _+_, _/_, _%_, _≤_, _<_}
 use native.Mathlib.Decide.{ℕ-discrete}
@@ -178,18 +178,19 @@ module _ (tag : ℕ) (contents rest : List ℕ) where
 
 -- ---- what a record says, by its tag
 
--- a record of the tag before it has a key above the one before it, and the other way round
-above-key : (kept : Kept) (tag : ℕ) (contents : List ℕ) → not-above kept tag contents ≡ false → kept .tag ≡ tag → kept .last < key tag contents
+-- a name or link behind one of its own tag has a key above that one's, and the other way round
+above-key : (kept : Kept) (tag : ℕ) (contents : List ℕ) → (eqb tag tag-name || eqb tag tag-link) ≡ true → not-above kept tag contents ≡ false
+    → kept .tag ≡ tag → kept .last < key tag contents
 unfolding not-above
-above-key kept tag contents e s = leb-false (key tag contents) (kept .last) (rw (eq-eqb tag (kept .tag) (sym s)) at e)
+above-key kept tag contents o e s = leb-false (key tag contents) (kept .last) (rw (o, eq-eqb tag (kept .tag) (sym s)) at e)
 
 key-above : (kept : Kept) (tag : ℕ) (contents : List ℕ) → (kept .tag ≡ tag → kept .last < key tag contents) → not-above kept tag contents ≡ false
 unfolding not-above
-key-above kept tag contents f = go (ℕ-discrete (kept .tag) tag)
+key-above kept tag contents f = go (eqb tag tag-name || eqb tag tag-link) (ℕ-discrete (kept .tag) tag)
   where
-    go : Dec (kept .tag ≡ tag) → (eqb tag (kept .tag) && leb (key tag contents) (kept .last)) ≡ false
-    go (yes e) = rw (eq-eqb tag (kept .tag) (sym e), lt-leb (key tag contents) (kept .last) (f e))
-    go (no e) = rw (ne-eqb tag (kept .tag) (λ d. e (sym d)))
+    go : (o : Bool) → Dec (kept .tag ≡ tag) → (o && eqb tag (kept .tag) && leb (key tag contents) (kept .last)) ≡ false
+    go o (yes e) = rw (lt-leb (key tag contents) (kept .last) (f e)) (and-false (o && eqb tag (kept .tag)))
+    go o (no e) = rw (ne-eqb tag (kept .tag) (λ d. e (sym d)), and-false o)
 
 -- the last byte of a list
 last-byte : (bytes : List ℕ) (i : ℕ) → length bytes ≡ suc i → drop i bytes ≡ byte bytes i ∷ []
@@ -249,7 +250,7 @@ fine-name kept place contents f =
           plain = every-true name-byte (λ c. (0x21 ≤ c) × (c ≤ 0x7E)) plain-byte (drop 1 contents) plain;
         };
         in-turn = tag-order kept tag-name (f .tagged) .not-below;
-        rises = above-key kept tag-name contents (f .above);
+        rises = above-key kept tag-name contents refl (f .above);
       },
     )
 
@@ -308,7 +309,7 @@ fine-link kept contents f =
       record {
         fits = fits-link (kept .routers) (link-of contents) (f .fits);
         in-turn = tag-order kept tag-link (f .tagged) .not-below;
-        rises = above-key kept tag-link contents (f .above);
+        rises = above-key kept tag-link contents refl (f .above);
         one-more = leb-false 256 (kept .links) (f .few);
       },
     )

@@ -94,7 +94,7 @@ bad-tag kept tag =
 
 -- 5: name or link not above the one before it
 unfoldable pub not-above : Kept → ℕ → List ℕ → Bool
-not-above kept tag contents = tag =? kept .tag && key tag contents ≤? kept .last
+not-above kept tag contents = (tag =? tag-name || tag =? tag-link) && tag =? kept .tag && key tag contents ≤? kept .last
 
 -- 6: a 257th link
 unfoldable pub too-many : Kept → ℕ → Bool

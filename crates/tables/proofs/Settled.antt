@@ -4,15 +4,14 @@ use mathlib.Core.Path.{_≡_, sym, _∙_, ap}
 use mathlib.Core.List.{List}
 use Prim.Native.Nat.{ℕ, _+_, _*_}
 use native.Mathlib.Omega.{arith}
-use lib.ListN.{drop}
-use Rattle.rules.specs.Table.{Kept, Step, good, bad, step, judge}
+use Rattle.rules.specs.Table.{Step, good, bad, judge}
 use Rattle.rules.specs.Promises.{Settles}
 use Rattle.rules.proofs.Uniqueness.{value-settled, equations-settle}
-use Rattle.tables.specs.Steps.{step-of}
-use Rattle.tables.specs.Readings.{judged-of, reading-numbers, Outlined, Reads}
+use Rattle.tables.specs.Steps.{step-of, StepsTo}
+use Rattle.tables.specs.Readings.{judged-of, JudgedTo, reading-numbers, Outlined, Reads}
+use Rattle.tables.specs.declared.Kept.{Kept}
 use Rattle.tables.specs.declared.Step.{Step as StepHere}
 use Rattle.tables.specs.declared.Step.the-variants as here
-use Rattle.tables.specs.declared.Judged.{Judged as JudgedHere}
 use Rattle.tables.specs.declared.Reading.{Reading}
 use Rattle.tables.specs.declared.Reading.the-variants.{Accepted, Refused}
 
@@ -41,10 +40,10 @@ step-apart bytes place (here.Refused number at) (here.Refused number′ at′) e
     let p : at ≡ at′ = cc in
     rw (n, p)
 
-pub next-record-settled : (bytes : List ℕ) (place : ℕ) (kept : Kept) → Settles (λ (r : StepHere). step-of bytes place r ≡ step kept place (drop place bytes))
-next-record-settled bytes place kept = equations-settle _ _ (step-of bytes place) (step-apart bytes place) (step kept place (drop place bytes))
+pub next-record-settled : (bytes : List ℕ) (place : ℕ) (kept : Kept) → Settles (StepsTo bytes place kept)
+next-record-settled bytes place kept = equations-settle _ _ (step-of bytes place) (step-apart bytes place) _
 
-pub judge-settled : (bytes : List ℕ) → Settles (λ (r : JudgedHere). r ≡ judged-of (judge bytes))
+pub judge-settled : (bytes : List ℕ) → Settles (JudgedTo bytes)
 judge-settled bytes = value-settled (judged-of (judge bytes))
 
 -- the numbers tell accepted and refused apart, since a refusal has a number; the outline settles an accepted table

@@ -2,7 +2,7 @@
 -- Assumes nothing.
 use mathlib.Core.Path.{_≡_, refl, sym, _∙_, ap, ap₂}
 use mathlib.Core.Logic.{_≢_}
-use mathlib.Core.Bool.{Bool, true, false, _&&_, not}
+use mathlib.Core.Bool.{Bool, true, false, _&&_, _||_, not}
 use mathlib.Core.List.{List}
 use Prim.Native.Nat.{ℕ, _+_, _-_, _*_, _≤_, _<_}
 use native.Mathlib.Nat.{add-zero}
@@ -12,9 +12,10 @@ use lib.ListN.{length, take, drop, length-drop}
 use lib.Seq.{length-take-le, drop-drop}
 use borrow.Author.Tests.{eq-eqb, ne-eqb, lt-ltb, le-ltb, le-leb, lt-leb}
 use Rattle.rules.specs.Words.{pick}
-use Rattle.rules.specs.Layout.{tag-routers, tag-link}
+use Rattle.rules.specs.Layout.{tag-routers, tag-name, tag-link}
 use Rattle.rules.specs.Table as Rules
 use Rattle.rules.specs.Table.{byte, two-bytes, length-allowed, contents-fit, key, Kept, keep, bad-tag, not-above, too-many, record-in, Step, good, bad, step}
+use Rattle.rules.proofs.Basics.{both}
 use Rattle.rules.proofs.AtPlace.{tag-there, size-there}
 use Rattle.tables.specs.Steps.{step-of, contents-number, record-with}
 use Rattle.tables.specs.declared.Step.the-variants.{Record, Refused}
@@ -26,24 +27,35 @@ module _ (kept : Kept) (tag : ℕ) (contents : List ℕ) where
   unfolding contents-number
   number-4 e = rw e
 
-  module _ (f : contents-fit (kept .routers) tag contents ≡ true) (order : ℕ) (k : order ≡ key tag contents) where
-    pub number-5 : (eqb tag (kept .tag) && leb order (kept .last)) ≡ true → 5 ≡ contents-number kept tag contents
-    unfolding contents-number not-above
-    number-5 e = rw (f, ← k, e)
+  module _ (f : contents-fit (kept .routers) tag contents ≡ true) where
+    -- neither a name nor a link
+    pub number-free : tag ≢ tag-name → tag ≢ tag-link → 0 ≡ contents-number kept tag contents
+    unfolding contents-number not-above too-many
+    number-free n l = rw (f, ne-eqb tag tag-name n, ne-eqb tag tag-link l)
 
-    module _ (g : (eqb tag (kept .tag) && leb order (kept .last)) ≡ false) where
-      pub number-none : tag ≢ tag-link → 0 ≡ contents-number kept tag contents
-      unfolding contents-number not-above too-many
-      number-none e = rw (f, ← k, g, ne-eqb tag tag-link e)
+    -- a name or a link
+    module _ (s : (eqb tag tag-name || eqb tag tag-link) ≡ true) (order : ℕ) (k : order ≡ key tag contents) where
+      pub number-5 : (eqb tag (kept .tag) && leb order (kept .last)) ≡ true → 5 ≡ contents-number kept tag contents
+      unfolding contents-number not-above
+      number-5 e = let (t, o) = both (eqb tag (kept .tag)) (leb order (kept .last)) e in rw (f, s, ← k, t, o)
 
-      module _ (e : tag ≡ tag-link) where
-        pub number-6 : 256 ≤ kept .links → 6 ≡ contents-number kept tag contents
-        unfolding contents-number not-above too-many
-        number-6 h = rw (f, ← k, g, eq-eqb tag tag-link e, le-leb 256 (kept .links) h)
+      module _ (g : (eqb tag (kept .tag) && leb order (kept .last)) ≡ false) where
+        above : not-above kept tag contents ≡ false
+        unfolding not-above
+        above = rw (s, ← k) g
 
-        pub number-few : kept .links < 256 → 0 ≡ contents-number kept tag contents
-        unfolding contents-number not-above too-many
-        number-few h = rw (f, ← k, g, eq-eqb tag tag-link e, lt-leb 256 (kept .links) h)
+        pub number-none : tag ≢ tag-link → 0 ≡ contents-number kept tag contents
+        unfolding contents-number too-many
+        number-none e = rw (f, above, ne-eqb tag tag-link e)
+
+        module _ (e : tag ≡ tag-link) where
+          pub number-6 : 256 ≤ kept .links → 6 ≡ contents-number kept tag contents
+          unfolding contents-number too-many
+          number-6 h = rw (f, above, eq-eqb tag tag-link e, le-leb 256 (kept .links) h)
+
+          pub number-few : kept .links < 256 → 0 ≡ contents-number kept tag contents
+          unfolding contents-number too-many
+          number-few h = rw (f, above, eq-eqb tag tag-link e, lt-leb 256 (kept .links) h)
 
 -- the number of contents whose tag is known
 pub number-of-tag : (kept : Kept) (tag known : ℕ) (contents : List ℕ) → tag ≡ known → (number : ℕ) → number ≡ contents-number kept known contents

@@ -3,16 +3,17 @@
 use mathlib.Core.Path.{_≡_, refl, sym, _∙_, ap, ap₂}
 use mathlib.Core.Logic.{_≢_}
 use mathlib.Core.Bool.{Bool, true, false, _&&_}
-use mathlib.Core.List.{List, [], _∷_, map}
-use Prim.Native.Nat.{ℕ, suc, _+_, _-_, _≤_, _<_, add·zero}
+use mathlib.Core.List.{List, [], _∷_}
+use Prim.Native.Nat.{ℕ, suc, _+_, _≤_, _<_, add·zero}
+use native.Mathlib.Decide.{ℕ-discrete}
 use native.Mathlib.Omega.{arith}
 use native.Mathlib.Nat.{add-zero}
 use lib.Dec.{eqb, leb}
 use lib.ListN.{length, drop, length-drop}
 use borrow.Author.Tests.{leb-false, eq-eqb, ne-eqb}
 use Rattle.rules.specs.Words.{pick, those}
-use Rattle.rules.specs.Layout.{Link, tag-routers, tag-link, tag-end}
-use Rattle.rules.specs.Table.{byte, link-of, Record, Kept, nothing-kept, keep, length-allowed, too-many, record-in, Step, good, step, Judged, accepted, refused, followed-by, judge-from, judge, routers-of, table-of}
+use Rattle.rules.specs.Layout.{tag-routers, tag-link, tag-end}
+use Rattle.rules.specs.Table.{byte, Record, Kept, nothing-kept, keep, length-allowed, too-many, record-in, Step, good, step, Judged, accepted, refused, followed-by, judge-from, judge, routers-of, table-of}
 use Rattle.rules.proofs.Basics.{pick-t, pick-f}
 use Rattle.rules.proofs.Judging.{size-in, contents-in, Good, Steps, gives, refuses, steps, Judges, stops, ends, goes, judges, judged, judge-stops, judge-ends, judge-goes, judge-judges}
 use Rattle.rules.proofs.AtPlace.{left-behind, whole-there}
@@ -25,11 +26,12 @@ use denote.Enum.Declared.{tagOf, declared}
 use Rattle.tables.specs.declared.Step.the-variants as here
 use Rattle.tables.specs.declared.Judged.{Judged as JudgedHere}
 use Rattle.tables.specs.declared.Judged.the-variants.{Accepted, Refused}
+use Rattle.tables.proofs.Places.{no-links, more-links, same-links}
 
 -- ---- what judging tells, by what is kept at the end
 
 -- what is kept behind some records
-pub kept-after : Kept → List Record → Kept
+kept-after : Kept → List Record → Kept
 kept-after kept [] = kept
 kept-after kept (r ∷ rs) = kept-after (keep kept r) rs
 
@@ -40,20 +42,13 @@ told kept (refused number place) = Refused number place
 
 -- one more for each link
 links-kept : (kept : Kept) (rs : List Record) → kept-after kept rs .links ≡ kept .links + length (table-of rs .links)
-unfolding kept-after keep table-of those
-links-kept kept [] = sym (add-zero (kept .links))
-links-kept kept (r ∷ rs) = go (eqb (r .tag) tag-link) (links-kept (keep kept r) rs)
+unfolding kept-after keep
+links-kept kept [] = omega (arith, ap length no-links)
+links-kept kept (r ∷ rs) = links-kept (keep kept r) rs ∙ go (ℕ-discrete (r .tag) tag-link)
   where
-    links-in : List Record → List Link
-    links-in rs = map (λ r. link-of (r .contents)) rs
-
-    those-links : List Record
-    those-links = those (λ r. eqb (r .tag) tag-link) rs
-
-    go : (t : Bool) → kept-after (keep kept r) rs .links ≡ kept .links + pick t 1 0 + length (links-in those-links)
-        → kept-after (keep kept r) rs .links ≡ kept .links + length (links-in (pick t (r ∷ those-links) those-links))
-    go true e = e ∙ omega arith
-    go false e = e ∙ omega arith
+    go : Dec (r .tag ≡ tag-link) → kept .links + pick (eqb (r .tag) tag-link) 1 0 + length (table-of rs .links) ≡ kept .links + length (table-of (r ∷ rs) .links)
+    go (yes e) = rw (eq-eqb (r .tag) tag-link e) (omega (arith, ap length (more-links r rs e)))
+    go (no e) = rw (ne-eqb (r .tag) tag-link e) (omega (arith, ap length (same-links r rs e)))
 
 -- behind the first record N stays
 abbrev Stays : Kept → Judged → Type 0
@@ -155,6 +150,7 @@ module _ (bytes : List ℕ) (place : ℕ) (kept : Kept) where
         go true e = omega (arith, fewer _ (ap (λ n. eqb n tag-link) (f .tag-there)) e (f .good-there .few))
         go false e = omega arith
 
+    -- the end record: what is kept is told
     pub told-ended : tag ≡ tag-end → Accepted (kept .routers) (kept .links) end ≡ told-from bytes place kept
     unfolding told-from told kept-after keep
     told-ended e =
@@ -169,6 +165,7 @@ module _ (bytes : List ℕ) (place : ℕ) (kept : Kept) where
         same : {a b c x y z : ℕ} → a ≡ x → b ≡ y → c ≡ z → Accepted a b c ≡ Accepted x y z
         same p q r = rw (p, q, r)
 
+    -- any other: what is told from its end on is what is told from its start on
     pub told-next : tag ≢ tag-end → told-from bytes end (keep kept (record-with tag (record-from bytes place tag end .contents))) ≡ told-from bytes place kept
     unfolding told-from told kept-after keep
     told-next e =

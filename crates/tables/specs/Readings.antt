@@ -5,7 +5,7 @@ use Prim.Native.Nat.{ℕ}
 use lib.ListN.{length}
 use Rattle.rules.specs.Words.{_<?_, pick}
 use Rattle.rules.specs.Layout.{tag-link}
-use Rattle.rules.specs.Table.{Record, Judged, accepted, refused, read, records-of, table-of, says}
+use Rattle.rules.specs.Table.{Record, Judged, accepted, refused, judge, read, records-of, table-of, says}
 use Rattle.rules.specs.Questions.{Answer, answered, refused-with, IsNumber, Reading, read-answer}
 use Rattle.tables.specs.declared.Step.{Step as StepHere}
 use Rattle.tables.specs.declared.Step.the-variants as step
@@ -19,6 +19,10 @@ use Rattle.tables.specs.declared.Reading.the-variants.{Accepted, Refused
 unfoldable pub judged-of : Judged → JudgedHere
 judged-of (accepted rs end) = judged.Accepted (table-of rs .routers) (length (table-of rs .links)) end
 judged-of (refused number place) = judged.Refused number place
+
+-- r is what judging tells of these bytes
+abbrev pub JudgedTo : List ℕ → JudgedHere → Type 0
+JudgedTo bytes r = r ≡ judged-of (judge bytes)
 
 -- the refusal that a step gave; no other step is asked for one
 unfoldable pub refusal-in : StepHere → JudgedHere

@@ -1,10 +1,11 @@
 -- The reading step's answer, as document 01's step gives it.
+use mathlib.Core.Path.{_≡_}
 use mathlib.Core.List.{List, [], _∷_}
 use mathlib.Core.Bool.{not}
 use Prim.Native.Nat.{ℕ, _+_, _-_}
 use lib.ListN.{take, drop}
 use Rattle.rules.specs.Words.{_when_, first_otherwise_}
-use Rattle.rules.specs.Table.{Record, Kept, Step, good, bad, contents-fit, not-above, too-many}
+use Rattle.rules.specs.Table.{Record, Kept, Step, good, bad, step, contents-fit, not-above, too-many}
 use Rattle.tables.specs.declared.Kept.{Kept as KeptHere}
 use Rattle.tables.specs.declared.Step.{Step as StepHere}
 use Rattle.tables.specs.declared.Step.the-variants.{Record as RecordHere, Refused}
@@ -21,6 +22,10 @@ record-from bytes place tag end = record { place = place; tag = tag; contents = 
 unfoldable pub step-of : List ℕ → ℕ → StepHere → Step
 step-of bytes place (RecordHere tag end) = good (record-from bytes place tag end) end
 step-of bytes place (Refused number at) = bad number at
+
+-- r is what the step answers at a place, with what was kept
+abbrev pub StepsTo : List ℕ → ℕ → KeptHere → StepHere → Type 0
+StepsTo bytes place kept r = step-of bytes place r ≡ step (kept-of kept) place (drop place bytes)
 
 -- the number that refuses the contents of a record, judged as a part of their own: 4, 5, 6, and 0 for none
 unfoldable pub contents-number : Kept → ℕ → List ℕ → ℕ

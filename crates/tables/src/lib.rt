@@ -5,10 +5,9 @@ ghost use Prim.Native.Nat.{_+_, _*_, _<_, _≤_};
 ghost use lib.ListN.{length, drop};
 ghost use Rattle.rules.specs.Words.{_=?_, _≤?_, every};
 ghost use Rattle.rules.specs.Layout.{tag-routers, tag-name, tag-link};
-ghost use Rattle.rules.specs.Table.{byte, bad-tag, length-allowed, name-byte, name-fits, link-fits, link-of, key, keep, step};
-ghost use Rattle.rules.specs.Table as Table;
-ghost use Rattle.tables.specs.Steps.{kept-of, step-of, contents-number, record-with};
-ghost use Rattle.tables.specs.Readings.{judged-of, refusal-in, Reads};
+ghost use Rattle.rules.specs.Table.{byte, bad-tag, length-allowed, name-byte, name-fits, link-fits, link-of, key, keep};
+ghost use Rattle.tables.specs.Steps.{kept-of, contents-number, record-with, StepsTo};
+ghost use Rattle.tables.specs.Readings.{refusal-in, JudgedTo, Reads};
 
 // The tags of the four kinds of records.
 pub const ROUTERS: u8 = 0x01;
@@ -158,7 +157,7 @@ fn order_of(contents: &[u8], tag: u8) -> u16
     0
 }
 
-// 5: not above the record before it, where that has the same tag.
+// 5: a name or link not above the record before it, where that has the same tag.
 fn is_not_above(kept: Kept, tag: u8, order: u16) -> bool
     ensures { λ r. ⌜ r ≡ (tag =? kept .tag && order ≤? kept .last) ⌝ }
 {
@@ -211,9 +210,6 @@ fn routers_number(contents: &[u8], kept: Kept) -> u8
     if 64 < routers {
         return 4;
     }
-    if is_not_above(kept, ROUTERS, 0) {
-        return 5;
-    }
     0
 }
 
@@ -231,15 +227,12 @@ fn contents_number(contents: &[u8], tag: u8, kept: Kept) -> u8
     if tag == ROUTERS {
         return routers_number(contents, kept);
     }
-    if is_not_above(kept, tag, 0) {
-        return 5;
-    }
     0
 }
 
 // The reading step: the record at a place, behind the records of which this is kept.
 pub fn next_record(table: &[u8], place: usize, kept: Kept) -> Step
-    ensures { λ r. ⌜ step-of (now (table .entry)) place r ≡ step (kept-of kept) place (drop place (now (table .entry))) ⌝ }
+    ensures { λ r. ⌜ StepsTo (now (table .entry)) place kept r ⌝ }
 {
     let len = table.len();
     if len < 3 {
@@ -312,7 +305,7 @@ fn refusal(step: Step) -> Judged
 
 // Records are judged in file order, up to the end record, and the first bad one decides. What stands behind the end record is not looked at.
 pub fn judge(table: &[u8]) -> Judged
-    ensures { λ r. ⌜ r ≡ judged-of (Table.judge (now (table .entry))) ⌝ }
+    ensures { λ r. ⌜ JudgedTo (now (table .entry)) r ⌝ }
 {
     let mut kept = Kept {
         routers: 0,

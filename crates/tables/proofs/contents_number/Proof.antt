@@ -1,10 +1,8 @@
 -- `tables::contents_number` meets its contract.
 -- Assumes nothing.
-use mathlib.Core.Path.{sym, _∙_}
 use native.Mathlib.Omega.{arith}
-use borrow.Author.Needs.{needs}
-use Rattle.tables.proofs.Stepping.{number-of-tag, number-5, number-none}
-use Rattle.tables.proofs.Tests.{link-long, name-long, routers-long, fit-else, key-else}
+use Rattle.tables.proofs.Stepping.{number-of-tag, number-free}
+use Rattle.tables.proofs.Tests.{link-long, name-long, routers-long, fit-else}
 use Rattle.tables.proofs.contents_number.Statement.{statement}
 use Rattle.tables.proofs.contents_number.Tie as tie
 
@@ -26,20 +24,8 @@ routers-number-requires c κs = omega (arith, routers-long _ _ (c .before .befor
 returns-3 : tie.Need-returns-3
 returns-3 c = number-of-tag _ _ _ _ (c .before .if3 .taken) _ (c .routers-number .ensures)
 
-is-not-above-requires : tie.Need-is-not-above-requires
-is-not-above-requires c κs = search needs
-
 returns-4 : tie.Need-returns-4
-returns-4 c =
-    let m = c .before .before in
-    number-5 _ _ _ (fit-else _ _ _ (m .before .before .if1 .left) (m .before .if2 .left) (m .if3 .left)) _ (key-else _ _ (m .before .before .if1 .left) (m .before .if2 .left))
-    (sym (c .before .is-not-above .ensures) ∙ c .if4 .taken)
-
-returns-5 : tie.Need-returns-5
-returns-5 c =
-    let m = c .before .before in
-    number-none _ _ _ (fit-else _ _ _ (m .before .before .if1 .left) (m .before .if2 .left) (m .if3 .left)) _ (key-else _ _ (m .before .before .if1 .left) (m .before .if2 .left))
-    (sym (c .before .is-not-above .ensures) ∙ c .if4 .left) (m .before .before .if1 .left)
+returns-4 c = number-free _ _ _ (fit-else _ _ _ (c .before .before .if1 .left) (c .before .if2 .left) (c .if3 .left)) (c .before .if2 .left) (c .before .before .if1 .left)
 
 pub contents-number-spec : {M : Type 1} → statement M
 contents-number-spec =
@@ -51,6 +37,4 @@ contents-number-spec =
     returns-2
     routers-number-requires
     returns-3
-    is-not-above-requires
-    returns-4
-    returns-5)
+    returns-4)

@@ -29,19 +29,19 @@ is-not-above-requires c κs = search needs
 returns-2 : tie.Need-returns-2
 returns-2 c =
     let m = c .before .before .before .before .before in
-    number-5 _ _ _ (fit-link _ _ ∙ sym (m .before .link-is-fit .ensures) ∙ not-false _ (m .if1 .left)) _ (key-link _ _ refl _ (c .before .before .joined .ensures))
+    number-5 _ _ _ (fit-link _ _ ∙ sym (m .before .link-is-fit .ensures) ∙ not-false _ (m .if1 .left)) refl _ (key-link _ _ refl _ (c .before .before .joined .ensures))
     (sym (c .before .is-not-above .ensures) ∙ c .if2 .taken)
 
 returns-3 : tie.Need-returns-3
 returns-3 c =
     let m = c .before .before .before .before .before .before .before in
-    number-6 _ _ _ (fit-link _ _ ∙ sym (m .before .link-is-fit .ensures) ∙ not-false _ (m .if1 .left)) _ (key-link _ _ refl _ (c .before .before .before .before .joined .ensures))
+    number-6 _ _ _ (fit-link _ _ ∙ sym (m .before .link-is-fit .ensures) ∙ not-false _ (m .if1 .left)) refl _ (key-link _ _ refl _ (c .before .before .before .before .joined .ensures))
     (sym (c .before .before .before .is-not-above .ensures) ∙ c .before .before .if2 .left) refl (c .if3 .taken)
 
 returns-4 : tie.Need-returns-4
 returns-4 c =
     let m = c .before .before .before .before .before .before .before in
-    number-few _ _ _ (fit-link _ _ ∙ sym (m .before .link-is-fit .ensures) ∙ not-false _ (m .if1 .left)) _ (key-link _ _ refl _ (c .before .before .before .before .joined .ensures))
+    number-few _ _ _ (fit-link _ _ ∙ sym (m .before .link-is-fit .ensures) ∙ not-false _ (m .if1 .left)) refl _ (key-link _ _ refl _ (c .before .before .before .before .joined .ensures))
     (sym (c .before .before .before .is-not-above .ensures) ∙ c .before .before .if2 .left) refl (c .if3 .left)
 
 pub link-number-spec : {M : Type 1} → statement M

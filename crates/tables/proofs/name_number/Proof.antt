@@ -27,13 +27,13 @@ is-not-above-requires c κs = search needs
 returns-2 : tie.Need-returns-2
 returns-2 c =
     let m = c .before .before .before in
-    number-5 _ _ _ (fit-name _ _ ∙ sym (m .before .name-is-fit .ensures) ∙ not-false _ (m .if1 .left)) _ (key-name _ _ refl)
+    number-5 _ _ _ (fit-name _ _ ∙ sym (m .before .name-is-fit .ensures) ∙ not-false _ (m .if1 .left)) refl _ (key-name _ _ refl)
     (sym (c .before .is-not-above .ensures) ∙ c .if2 .taken)
 
 returns-3 : tie.Need-returns-3
 returns-3 c =
     let m = c .before .before .before in
-    number-none _ _ _ (fit-name _ _ ∙ sym (m .before .name-is-fit .ensures) ∙ not-false _ (m .if1 .left)) _ (key-name _ _ refl)
+    number-none _ _ _ (fit-name _ _ ∙ sym (m .before .name-is-fit .ensures) ∙ not-false _ (m .if1 .left)) refl _ (key-name _ _ refl)
     (sym (c .before .is-not-above .ensures) ∙ c .if2 .left) (omega arith)
 
 pub name-number-spec : {M : Type 1} → statement M

@@ -17,7 +17,6 @@ use Rattle.tables.proofs.joined.Reads as joined-reads
 use Rattle.tables.proofs.length_fits.Reads as length-fits-reads
 use Rattle.tables.proofs.tag_is_bad.Reads as tag-is-bad-reads
 
--- behind the test of the length: tag and length are good
 abbrev Sized : Type 0
 Sized =
     lts.Else4 (
@@ -88,7 +87,7 @@ add-end-2 c = search needs
 returns-5 : tie.Need-returns-5
 returns-5 c =
     let m = c .before in
-    step-contents _ _ _ (omega arith) (tag-good m) _ (m .before .before .joined .ensures) (length-good m) (c .if5 .taken)
+    step-contents _ _ _ (omega arith) (tag-good m) _ (m .before .before .joined .ensures) (length-good m) (omega arith)
 
 add-contents-number : tie.Need-add-contents-number
 add-contents-number c = search needs

@@ -10,7 +10,6 @@ use Rattle.tables.proofs.read.Reads as reads
 use Rattle.tables.proofs.read.Lts as lts
 use Rattle.tables.proofs.judge.Reads as judge-reads
 
--- where judging accepted, and what the table's end tells
 abbrev Judged : Type 0
 Judged = lts.After-judged (judge-reads.Asked, judge-reads.Learnt) reads.Pre reads.Post
 
