@@ -19,7 +19,7 @@ use Rattle.rules.proofs.Judging.{size-in, Good, Judges, stops, ends, goes, judg
 use Rattle.rules.proofs.Records.{tag-order}
 use Rattle.rules.proofs.AtPlace.{tag-there, size-there, left-behind, whole-there}
 use Rattle.rules.proofs.Refusals.{judged-whole}
-use Rattle.links.specs.Links.{link-at, behind, reader-start}
+use Rattle.links.specs.Links.{link-at, behind, reader-start, LinksByNumber}
 use Rattle.tables.specs.Readings.{links-place, links-start}
 use Rattle.tables.proofs.Tests.{link-long}
 use Rattle.tables.proofs.Places.{links-here, links-later, more-links, same-links, no-links, Starts, starts, lower, judged-ends}
@@ -101,7 +101,7 @@ module _ (bytes : List ℕ) (e : IsAccepted bytes) where
   unfolding links-start says
   links-stand = rw (judged-whole bytes e .read-so) (accepted-stand .0)
 
-  pub links-end : links-start bytes + 7 * length (says bytes .links) + 3 ≡ length bytes
+  links-end : links-start bytes + 7 * length (says bytes .links) + 3 ≡ length bytes
   unfolding links-start says
   links-end =
       let w = judged-whole bytes e in
@@ -184,7 +184,7 @@ stand-at {bytes} {place} (one {l = l} {ls = ls} e s) (suc i) h =
     let further : place + 7 * suc i ≡ place + 7 + 7 * i = omega arith in
     ap (link-at bytes) further ∙ stand-at s i (omega arith) ∙ sym (later-in l ls i)
 
-pub link-by-number : (bytes : List ℕ) → IsAccepted bytes → (i : ℕ) → link-at bytes (links-start bytes + 7 * i) ≡ link-answer bytes i
+pub link-by-number : LinksByNumber
 unfolding link-answer
 link-by-number bytes e i = go (decLe i (length (says bytes .links)))
   where

@@ -2,12 +2,13 @@
 use mathlib.Core.Path.{_≡_}
 use mathlib.Core.Bool.{Bool, _&&_}
 use mathlib.Core.List.{List}
-use Prim.Native.Nat.{ℕ, _+_}
+use Prim.Native.Nat.{ℕ, _+_, _*_}
 use lib.ListN.{length, drop}
 use Rattle.rules.specs.Words.{_=?_, _≤?_, pick}
 use Rattle.rules.specs.Layout.{tag-link}
 use Rattle.rules.specs.Table.{byte, two-bytes, link-of, read, number-of}
-use Rattle.rules.specs.Questions.{NextLink, no-more}
+use Rattle.rules.specs.Demand1.{IsAccepted}
+use Rattle.rules.specs.Questions.{NextLink, no-more, link-answer}
 use Rattle.tables.specs.Readings.{links-start}
 use Rattle.links.specs.declared.NextLink.{NextLink as NextLinkHere}
 use Rattle.links.specs.declared.NextLink.the-variants.{One, NoMore}
@@ -41,3 +42,7 @@ place-in place NoMore = place
 -- what is told at a place: the link whose record stands there, and the place behind it
 abbrev pub Tells : List ℕ → ℕ → NextLinkHere → Type 0
 Tells bytes place r = (next-numbers r ≡ link-at bytes place) × (place-in place r ≡ behind bytes place)
+
+-- From where an accepted table's links start, link i stands 7 × i bytes further on; behind the last there is none. (proofs/Stand)
+abbrev pub LinksByNumber : Type 0
+LinksByNumber = (bytes : List ℕ) → IsAccepted bytes → (i : ℕ) → link-at bytes (links-start bytes + 7 * i) ≡ link-answer bytes i

@@ -15,13 +15,14 @@ use types.Run.{OneOf}
 use denote.Enum.Declared.{tagOf, declared}
 use Rattle.rules.specs.Words.{Line, pick}
 use Rattle.rules.specs.Layout.{Name}
-use Rattle.rules.specs.Table.{number-of, read, says}
+use Rattle.rules.specs.Table.{says}
+use Rattle.rules.specs.Demand1.{IsAccepted}
 use Rattle.rules.specs.Names.{Part, part-or, empty-part, named, or-else}
 use Rattle.rules.specs.Questions.{answered, Refusal, answer, name-for, name-answer, name-part, two-names-answer, two-names-part}
 use Rattle.rules.proofs.Basics.{pick-t, pick-f}
 use Rattle.rules.proofs.Refusals.{gives-values}
 use Rattle.rules.proofs.Cases.{applies, quiet-routers, answered-exactly}
-use Rattle.rules.proofs.Lines.{line-applies, line-passes, no-line, table-bad, table-good}
+use Rattle.rules.proofs.Lines.{line-applies, line-passes, no-lines-left, table-bad, table-good}
 use Rattle.names.specs.Namings.{naming-numbers, NamesPart, NamesIn, NamesInTwo, naming-of, naming-of-two}
 use Rattle.names.specs.Parts.{PartAt, IsPart, IsPartOfTwo}
 use Rattle.names.specs.declared.Naming.{Naming}
@@ -60,6 +61,7 @@ then-old n r in-old none e t q = q
 -- ---- the companion's answer for one table
 
 module _ (bytes : List ℕ) (router : ℕ) (r : Reading) (p : Reads bytes r) where
+  -- the table is refused
   pub in-refused : (number place : ℕ) → r ≡ reading.Refused number place → NamesIn bytes router (Refused number 0 place)
   unfolding name-answer naming-numbers
   in-refused number place e =
@@ -67,6 +69,7 @@ module _ (bytes : List ℕ) (router : ℕ) (r : Reading) (p : Reads bytes r) whe
       (sym (table-bad _ _ 0 bytes _ number place n q h), h)
 
   module _ (t : Outline) (e : r ≡ reading.Accepted t) where
+    -- the router is not below N
     pub in-above : t .routers ≤ router → NamesIn bytes router (Refused 9 0 0)
     unfolding name-answer naming-numbers
     in-above h =
@@ -74,6 +77,7 @@ module _ (bytes : List ℕ) (router : ℕ) (r : Reading) (p : Reads bytes r) whe
         let above : says bytes .routers ≤ router = rw outline at h in
         (sym (table-good _ _ 0 bytes _ accepted ∙ line-applies _ _ _ _ (le-leb _ _ above) (omega arith)), omega arith)
 
+    -- it is, and its name is looked for
     pub in-found : (n : Naming) → router < t .routers → n ≡ naming-of 0 (name-for bytes router) → NamesIn bytes router n
     unfolding name-answer name-part naming-numbers naming-of
     in-found n h q = subst (NamesIn bytes router) (sym q) (go (name-for bytes router) said part)
@@ -82,7 +86,7 @@ module _ (bytes : List ℕ) (router : ℕ) (r : Reading) (p : Reads bytes r) whe
         said =
             let (accepted, outline) = reading-accepted bytes r t p e in
             let below : router < says bytes .routers = rw outline at h in
-            table-good _ _ 0 bytes _ accepted ∙ line-passes _ _ _ _ (lt-leb _ _ below) ∙ no-line _ _
+            table-good _ _ 0 bytes _ accepted ∙ line-passes _ _ _ _ (lt-leb _ _ below) ∙ no-lines-left _ _
 
         part : name-part bytes router ≡ part-or 0 (name-for bytes router) (empty-part 0 bytes)
         part = pick-t _ _ _ (eq-eqb _ 0 (ap (λ a. a .refusal .number) said))
@@ -100,6 +104,7 @@ not-both (inl h) = λ b. omega arith
 not-both (inr h) = λ b. omega arith
 
 module _ (old new : List ℕ) (router : ℕ) (r : Reading) (p : Reads old r) where
+  -- the old table is refused, or the new one behind it
   pub old-refused : (number place : ℕ) → r ≡ reading.Refused number place → NamesInTwo old new router (Refused number 0 place)
   unfolding two-names-answer naming-numbers
   old-refused number place e =
@@ -114,7 +119,7 @@ module _ (old new : List ℕ) (router : ℕ) (r : Reading) (p : Reads old r) whe
         (sym (table-good _ _ 0 old _ (reading-accepted old r t p e .0) ∙ table-bad _ _ 1 new _ number place n z h), h)
 
     module _ (u : Outline) (f : s ≡ reading.Accepted u) where
-      pub two-accepted : (number-of (read old) ≡ 0) × (number-of (read new) ≡ 0)
+      pub two-accepted : IsAccepted old × IsAccepted new
       two-accepted = (reading-accepted old r t p e .0, reading-accepted new s u q f .0)
 
       routers-of-old : t .routers ≡ says old .routers
@@ -123,6 +128,7 @@ module _ (old new : List ℕ) (router : ℕ) (r : Reading) (p : Reads old r) whe
       routers-of-new : u .routers ≡ says new .routers
       routers-of-new = ap (λ (t : Outline). t .routers) (reading-accepted new s u q f .1)
 
+      -- the router is not below both N
       pub two-above : (t .routers ≤ router) ⊎ (u .routers ≤ router) → NamesInTwo old new router (Refused 9 0 0)
       unfolding two-names-answer naming-numbers
       two-above h =
@@ -131,6 +137,7 @@ module _ (old new : List ℕ) (router : ℕ) (r : Reading) (p : Reads old r) whe
             omega arith,
           )
 
+      -- it is, and its name is looked for
       pub two-found : (n : Naming) → router < t .routers → router < u .routers → n ≡ naming-of-two (name-for old router) (name-for new router)
           → NamesInTwo old new router n
       unfolding two-names-answer two-names-part naming-numbers naming-of naming-of-two
@@ -141,7 +148,7 @@ module _ (old new : List ℕ) (router : ℕ) (r : Reading) (p : Reads old r) whe
 
           said : two-names-answer old new router ≡ answered (named (or-else (name-for new router) (name-for old router)))
           said =
-              table-good _ _ 0 old _ (two-accepted .0) ∙ table-good _ _ 1 new _ (two-accepted .1) ∙ line-passes _ _ _ _ below ∙ no-line _ _
+              table-good _ _ 0 old _ (two-accepted .0) ∙ table-good _ _ 1 new _ (two-accepted .1) ∙ line-passes _ _ _ _ below ∙ no-lines-left _ _
 
           part : two-names-part old new router ≡ part-or 1 (name-for new router) (part-or 0 (name-for old router) (empty-part 1 new))
           part = pick-t _ _ _ (eq-eqb _ 0 (ap (λ a. a .refusal .number) said))
@@ -189,20 +196,20 @@ module _ (s : RefT (List ℕ)) (router : ℕ) (n : Naming) (p : NamesIn (s .now)
       unnamed (some m) e = absurd (omega arith)
 
   module _ (table place size : ℕ) (e : n ≡ Named table place size) where
-    it : NamesIn (s .now) router (Named table place size)
-    it = subst (NamesIn (s .now) router) e p
+    named-so : NamesIn (s .now) router (Named table place size)
+    named-so = subst (NamesIn (s .now) router) e p
 
     pub in-within : place + size ≤ length (s .now)
     unfolding naming-numbers name-part
     in-within =
-        let none : name-answer (s .now) router .refusal .number ≡ 0 = sym (ap (λ a. a .refusal .number) (it .0)) in
+        let none : name-answer (s .now) router .refusal .number ≡ 0 = sym (ap (λ a. a .refusal .number) (named-so .0)) in
         let accepted = answered-exactly .of-name (s .now) router .0 none .0 in
         let Within : Part → Type 0 = λ part. part .place + part .size ≤ length (s .now) in
-        subst Within (sym (it .1 ∙ pick-t _ _ _ (eq-eqb _ 0 none)))
+        subst Within (sym (named-so .1 ∙ pick-t _ _ _ (eq-eqb _ 0 none)))
         (or-part Within 0 (name-for (s .now) router) _ (named-within (s .now) accepted router) (omega arith))
 
     pub in-part : (r : RefT (List ℕ)) → PartAt s place size r → IsPart s (name-part (s .now) router) r
-    in-part r h = subst (λ part. IsPart s part r) (it .1) h
+    in-part r h = subst (λ part. IsPart s part r) (named-so .1) h
 
 module _ (old new : RefT (List ℕ)) (router : ℕ) (n : Naming) (p : NamesInTwo (old .now) (new .now) router n) where
   pub two-empty : (r : RefT (List ℕ)) → OneOf (1 ∷ 2 ∷ []) (tagOf (declared enum) n) → PartAt new (length (new .now)) 0 r
@@ -221,20 +228,20 @@ module _ (old new : RefT (List ℕ)) (router : ℕ) (n : Naming) (p : NamesInTwo
       unnamed (some m) p e = absurd (omega arith)
 
   module _ (table place size : ℕ) (e : n ≡ Named table place size) (first : Bool) (q : eqb table 0 ≡ first) where
-    it-of-two : NamesInTwo (old .now) (new .now) router (Named table place size)
-    it-of-two = subst (NamesInTwo (old .now) (new .now) router) e p
+    named-so-of-two : NamesInTwo (old .now) (new .now) router (Named table place size)
+    named-so-of-two = subst (NamesInTwo (old .now) (new .now) router) e p
 
     pub two-within : place + size ≤ length (pick first (old .now) (new .now))
     unfolding naming-numbers two-names-part
     two-within =
-        let none : two-names-answer (old .now) (new .now) router .refusal .number ≡ 0 = sym (ap (λ a. a .refusal .number) (it-of-two .0)) in
+        let none : two-names-answer (old .now) (new .now) router .refusal .number ≡ 0 = sym (ap (λ a. a .refusal .number) (named-so-of-two .0)) in
         let accepted = answered-exactly .of-two-names (old .now) (new .now) router .0 none in
         let Within : Part → Type 0 = λ part. part .place + part .size ≤ length (pick (eqb (part .table) 0) (old .now) (new .now)) in
         rw q at (
-        subst Within (sym (it-of-two .1 ∙ pick-t _ _ _ (eq-eqb _ 0 none)))
+        subst Within (sym (named-so-of-two .1 ∙ pick-t _ _ _ (eq-eqb _ 0 none)))
         (or-part Within 1 (name-for (new .now) router) _ (named-within (new .now) (accepted .1) router)
         (or-part Within 0 (name-for (old .now) router) _ (named-within (old .now) (accepted .0) router) (omega arith)))
         )
 
     pub two-part : (r : RefT (List ℕ)) → PartAt (pick first old new) place size r → IsPartOfTwo old new (two-names-part (old .now) (new .now) router) r
-    two-part r h = subst (λ part. IsPartOfTwo old new part r) (it-of-two .1) (rw q h)
+    two-part r h = subst (λ part. IsPartOfTwo old new part r) (named-so-of-two .1) (rw q h)

@@ -2,21 +2,20 @@
 -- Assumes nothing.
 use mathlib.Core.Path.{_≡_, refl, sym, _∙_, ap, subst}
 use mathlib.Core.Logic.{_≢_}
-use mathlib.Core.Bool.{Bool, true, false}
-use mathlib.Core.Option.{some, Option·some-injective}
+use mathlib.Core.Option.{some}
 use mathlib.Core.List.{List}
 use Prim.Native.Nat.{ℕ, _+_, _-_, _≤_, _<_}
 use native.Mathlib.Omega.{arith}
-use lib.Dec.{eqb}
 use lib.ListN.{length}
 use borrow.Author.Tests.{eq-eqb, ne-eqb}
-use Rattle.rules.specs.Words.{pick}
+use Rattle.rules.specs.Words.{All}
 use Rattle.rules.specs.Layout.{Name, tag-name}
 use Rattle.rules.specs.Table.{byte, says}
 use Rattle.rules.specs.Demand1.{IsAccepted}
-use Rattle.rules.specs.Names.{name-in, named}
+use Rattle.rules.specs.Names.{name-in}
 use Rattle.rules.specs.Questions.{name-for}
 use Rattle.rules.proofs.Basics.{pick-t, pick-f}
+use Rattle.rules.proofs.Names.{found-holds}
 use Rattle.names.specs.Namings.{naming-of}
 use Rattle.names.specs.declared.Naming.the-variants.{Named, Unnamed}
 use Rattle.names.proofs.NamesListed.{Listed, done, more, names-listed}
@@ -84,17 +83,10 @@ module _ {bytes : List ℕ} {router place : ℕ} (s : Seeks bytes router place) 
 
 -- ---- a name that is found lies within the table
 
-listed-within : {bytes : List ℕ} {place : ℕ} {ms : List Name} → Listed bytes place ms → (router : ℕ) (m : Name) → name-in ms router ≡ some m
-    → m .place + length (m .bytes) ≤ length bytes
-unfolding name-in
-listed-within (done h t) router m e = absurd (omega (arith, ap named e))
-listed-within {bytes} (more {m = x} {ms = ms} t r p z h l) router m e = go (eqb (x .router) router) e (listed-within l router m)
-  where
-    go : (b : Bool) → pick b (some x) (name-in ms router) ≡ some m → (name-in ms router ≡ some m → m .place + length (m .bytes) ≤ length bytes)
-        → m .place + length (m .bytes) ≤ length bytes
-    go true e ih = subst (λ m. m .place + length (m .bytes) ≤ length bytes) (Option·some-injective x m e) (omega arith)
-    go false e ih = ih e
+listed-within : {bytes : List ℕ} {place : ℕ} {ms : List Name} → Listed bytes place ms → All (λ m. m .place + length (m .bytes) ≤ length bytes) ms
+listed-within (done h t) = tt
+listed-within (more t r p z h l) = (omega arith, listed-within l)
 
 pub named-within : (bytes : List ℕ) → IsAccepted bytes → (router : ℕ) (m : Name) → name-for bytes router ≡ some m
     → m .place + length (m .bytes) ≤ length bytes
-named-within bytes e = listed-within (names-listed bytes e)
+named-within bytes e = found-holds _ (says bytes .names) (listed-within (names-listed bytes e))

@@ -49,6 +49,6 @@ pub name-in-settled : (table : RefT (List ℕ)) (router : ℕ) (r t : RefT (List
     → IsPart table (name-part (table .now) router) r → IsPart table (name-part (table .now) router) t → SamePart r t
 name-in-settled table router r t = part-settled _ _ _ r t
 
-pub name-settled : (old new : RefT (List ℕ)) (router : ℕ) (r t : RefT (List ℕ))
+pub name-in-two-settled : (old new : RefT (List ℕ)) (router : ℕ) (r t : RefT (List ℕ))
     → IsPartOfTwo old new (two-names-part (old .now) (new .now) router) r → IsPartOfTwo old new (two-names-part (old .now) (new .now) router) t → SamePart r t
-name-settled old new router r t = part-settled _ _ _ r t
+name-in-two-settled old new router r t = part-settled _ _ _ r t

@@ -142,7 +142,7 @@ pub fn name_in<'a>(table: &'a [u8], router: u64) -> &'a [u8]
 }
 
 // The name in the new table, or else the one in the old; the empty part at the end of the new one where there is none, or a refusal.
-pub fn name<'a>(old: &'a [u8], new: &'a [u8], router: u64) -> &'a [u8]
+pub fn name_in_two<'a>(old: &'a [u8], new: &'a [u8], router: u64) -> &'a [u8]
     ensures { λ r. ⌜ IsPartOfTwo (old .entry) (new .entry) (two-names-part (now (old .entry)) (now (new .entry)) router) r ⌝ }
 {
     let naming = naming_in_two(old, new, router);

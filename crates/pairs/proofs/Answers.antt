@@ -14,7 +14,7 @@ use Rattle.tables.specs.Readings.{outline-of}
 use Rattle.tables.specs.declared.Outline.{Outline}
 use Rattle.rules.specs.Demand1.{IsAccepted}
 use Rattle.rules.proofs.Cases.{applies, quiet-pair}
-use Rattle.rules.proofs.Lines.{line-applies, line-passes, no-line, table-bad, table-good}
+use Rattle.rules.proofs.Lines.{line-applies, line-passes, no-lines-left, table-bad, table-good}
 use Rattle.pairs.specs.declared.Pairing.the-variants.{Accepted, Refused}
 use Rattle.pairs.specs.Pairings.{pairing-numbers, Pairs}
 
@@ -56,4 +56,4 @@ module _ (old new : List ℕ) where
           unfolding pairing-numbers
           accepted e h =
               let t : too-different (says old) (says new) ≡ false = quiet-pair (says old) (says new) .1 (rw (p, q) at e, rw d at h) in
-              (rw (d, q) (sym (good ∙ line-passes _ _ (refusal 8 when too-different (says old) (says new)) [] t ∙ no-line _ _)), (p, q))
+              (rw (d, q) (sym (good ∙ line-passes _ _ (refusal 8 when too-different (says old) (says new)) [] t ∙ no-lines-left _ _)), (p, q))

@@ -13,7 +13,7 @@ no-pair = 65536
 
 -- the pair and the weight of the next link, and the place behind it
 unfoldable pub front-of : NextLink → ℕ → Front
-front-of next behind = record { pair = pick (next .more =? 0) no-pair (pair-number (next .link)); weight = next .link .weight; behind = behind }
+front-of next further = record { pair = pick (next .more =? 0) no-pair (pair-number (next .link)); weight = next .link .weight; behind = further }
 
 -- what stands in front at a place of a table
 abbrev pub front-at : List ℕ → ℕ → Front

@@ -27,7 +27,14 @@ pub enum Pairing {
     },
 }
 
-// Above every pair of a link: there is none.
+// Different N, or more than one link that differs.
+const TOO_DIFFERENT: Pairing = Pairing::Refused {
+    number: 8,
+    table: 0,
+    place: 0,
+};
+
+// A number above every pair, for "no more".
 const NO_PAIR: u32 = 65536;
 
 // The link in front of those that are not compared yet: its pair as one number, its weight, and the place behind it.
@@ -37,6 +44,7 @@ struct Front {
     behind: usize,
 }
 
+// What stands in front at a place of a table.
 fn front_at(table: &[u8], place: usize) -> Front
     ensures { λ r. ⌜ r ≡ front-at (now (table .entry)) place ⌝ }
 {
@@ -61,7 +69,7 @@ fn front_at(table: &[u8], place: usize) -> Front
 }
 
 // 1 where two weights differ, else 0.
-fn changed(old: u16, new: u16) -> u16
+fn differ_by(old: u16, new: u16) -> u16
     ensures { λ r. ⌜ r ≡ differ-by old new ⌝ }
 {
     if old == new {
@@ -93,7 +101,7 @@ fn count_differing(old: &[u8], i: usize, new: &[u8], k: usize) -> u16
         if o.pair == NO_PAIR {
             return count;
         }
-        count += changed(o.weight, n.weight);
+        count += differ_by(o.weight, n.weight);
         o = front_at(old, o.behind);
         n = front_at(new, n.behind);
     }
@@ -105,19 +113,11 @@ fn compare(old: &[u8], o: Outline, new: &[u8], n: Outline) -> Pairing
     ensures { λ r. ⌜ Pairs (now (old .entry)) (now (new .entry)) r ⌝ }
 {
     if o.routers != n.routers {
-        return Pairing::Refused {
-            number: 8,
-            table: 0,
-            place: 0,
-        };
+        return TOO_DIFFERENT;
     }
     let differ = count_differing(old, o.start, new, n.start);
     if 1 < differ {
-        return Pairing::Refused {
-            number: 8,
-            table: 0,
-            place: 0,
-        };
+        return TOO_DIFFERENT;
     }
     Pairing::Accepted {
         differ: differ as u8,

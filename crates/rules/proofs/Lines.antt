@@ -22,9 +22,9 @@ module _ {A : Type 0} (zeros values : A) where
   unfolding answer
   line-passes l ls e = rw e
 
-  pub no-line : answer [] zeros values ≡ answered values
+  pub no-lines-left : answer [] zeros values ≡ answered values
   unfolding answer
-  no-line = refl
+  no-lines-left = refl
 
   -- the first line is a table's
   module _ (which : ℕ) (bytes : List ℕ) (ls : List (Line Refusal)) where

@@ -87,18 +87,18 @@ names-stand bytes = names-of-those bytes _ (records-of (read bytes)) (read-stand
 
 -- ---- the part handed back
 
--- a name that is found is one of those listed
-found-stands : (bytes : List ℕ) (ms : List Name) → All (StandsIn bytes) ms → (i : ℕ) (m : Name) → name-in ms i ≡ some m → StandsIn bytes m
+-- what holds of every name listed holds of one that is found
+pub found-holds : (P : Name → Type 0) (ms : List Name) → All P ms → (i : ℕ) (m : Name) → name-in ms i ≡ some m → P m
 unfolding name-in
-found-stands bytes [] h i m e = absurd (omega (arith, ap named e))
-found-stands bytes (x ∷ xs) h i m e = go (eqb (x .router) i) e (found-stands bytes xs (h .1) i m)
+found-holds P [] h i m e = absurd (omega (arith, ap named e))
+found-holds P (x ∷ xs) h i m e = go (eqb (x .router) i) e (found-holds P xs (h .1) i m)
   where
-    go : (t : Bool) → pick t (some x) (name-in xs i) ≡ some m → (name-in xs i ≡ some m → StandsIn bytes m) → StandsIn bytes m
-    go true e ih = subst (StandsIn bytes) (Option·some-injective x m e) (h .0)
+    go : (t : Bool) → pick t (some x) (name-in xs i) ≡ some m → (name-in xs i ≡ some m → P m) → P m
+    go true e ih = subst P (Option·some-injective x m e) (h .0)
     go false e ih = ih e
 
 part-stands : (bytes : List ℕ) (i : ℕ) (m : Name) → name-for bytes i ≡ some m → StandsIn bytes m
-part-stands bytes i = found-stands bytes (says bytes .names) (names-stand bytes) i
+part-stands bytes i = found-holds (StandsIn bytes) (says bytes .names) (names-stand bytes) i
 
 pub parts-are-names : PartsAreNames
 unfolding name-answer name-part

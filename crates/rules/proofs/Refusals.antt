@@ -16,6 +16,7 @@ use Rattle.rules.specs.Pairs.{differing, too-different}
 use Rattle.rules.specs.Questions.{
   Refusal,
   refusal,
+  of-table,
   table-refusal,
   Answer,
   answer,
@@ -33,7 +34,7 @@ use Rattle.rules.specs.Questions.{
   name-answer,
   two-names-answer,
 }
-use Rattle.rules.specs.Demand1.{TableRefusals, table-numbers, RefusedBy, QuestionRefusals, LentOutputsStay, NamesNeverCount, of-table, TwoTablesFirst, TablesFirst}
+use Rattle.rules.specs.Demand1.{TableRefusals, table-numbers, RefusedBy, QuestionRefusals, LentOutputsStay, NamesNeverCount, TwoTablesFirst, TablesFirst}
 use Rattle.rules.proofs.Basics.{pick-t, pick-f}
 use Rattle.rules.proofs.Lines.{table-bad, table-good}
 use Rattle.rules.proofs.Judging.{Judges, stops, ends, goes, judge-judges}

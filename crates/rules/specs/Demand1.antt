@@ -17,7 +17,7 @@ use Rattle.rules.specs.NextHops.{chosen, next-hops, size}
 use Rattle.rules.specs.Entries.{code, entry, interfaces}
 use Rattle.rules.specs.Names.{empty-part, part-bytes}
 use Rattle.rules.specs.Listing.{listing}
-use Rattle.rules.specs.Questions.{Answer, Refusal, chosen-answer, costs-after, ending, entry-answer, fill-answer, interfaces-after, interfaces-answer, link-answer, name-answer, name-for, name-part, no-more, pair-answer, path-answer, read-answer, refusal, sets-after, trace-after, trip-of, two-names-answer, two-names-part}
+use Rattle.rules.specs.Questions.{Answer, chosen-answer, costs-after, ending, entry-answer, fill-answer, interfaces-after, interfaces-answer, link-answer, name-answer, name-for, name-part, no-more, of-table, pair-answer, path-answer, read-answer, refusal, sets-after, trace-after, trip-of, two-names-answer, two-names-part}
 
 -- ---- acceptance (proofs/Acceptance)
 
@@ -79,9 +79,6 @@ pub record QuestionRefusals : Type 0 where
   pub of-two-names : (old new : List ℕ) (i : ℕ) → RefusedBy 1 (table-numbers (9 ∷ [])) 0 (two-names-answer old new i)
 
 -- a refused table is named with its own number and place, the old one before the new
-abbrev pub of-table : ℕ → List ℕ → Refusal
-of-table which bytes = record { number = number-of (read bytes); table = which; place = place-of (read bytes) }
-
 abbrev pub OneTableFirst : {A : Type 0} → List ℕ → Answer A → Type 0
 OneTableFirst table a = number-of (read table) ≢ 0 → a .refusal ≡ of-table 0 table
 

@@ -28,9 +28,13 @@ pub record Refusal : Type 0 where
 abbrev pub refusal : ℕ → Refusal
 refusal number = record { number = number; table = 0; place = 0 }
 
+-- the refusal of one of the tables
+abbrev pub of-table : ℕ → List ℕ → Refusal
+of-table which bytes = record { number = number-of (read bytes); table = which; place = place-of (read bytes) }
+
 -- 1 to 7: the table's bytes are refused
 unfoldable pub table-refusal : ℕ → List ℕ → Line Refusal
-table-refusal which bytes = record { number = number-of (read bytes); table = which; place = place-of (read bytes) } when (0 <? number-of (read bytes))
+table-refusal which bytes = of-table which bytes when (0 <? number-of (read bytes))
 
 -- an answer: its refusal, and all its other numbers
 pub record Answer (A : Type 0) : Type 0 where

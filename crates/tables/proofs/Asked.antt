@@ -9,10 +9,10 @@ use lib.ListN.{length}
 use borrow.Author.Tests.{lt-ltb, le-ltb}
 use Rattle.rules.specs.Layout.{Table}
 use Rattle.rules.specs.Table.{Record, Judged, accepted, refused, judge, nothing-behind, read, number-of, place-of, records-of, table-of, says}
-use Rattle.rules.specs.Demand1.{IsAccepted, of-table}
-use Rattle.rules.specs.Questions.{refusal, answered, Reading, read-answer}
+use Rattle.rules.specs.Demand1.{IsAccepted}
+use Rattle.rules.specs.Questions.{refusal, of-table, answered, Reading, read-answer}
 use Rattle.rules.proofs.Basics.{pick-t, pick-f}
-use Rattle.rules.proofs.Lines.{no-line, table-bad, table-good}
+use Rattle.rules.proofs.Lines.{no-lines-left, table-bad, table-good}
 use Rattle.rules.proofs.Refusals.{table-refusals, tables-first}
 use Rattle.tables.specs.Readings.{judged-of, links-place, links-start, reading-numbers, outline-of, Reads}
 use Rattle.tables.specs.declared.Judged.the-variants as here
@@ -44,7 +44,7 @@ module _ (bytes : List ℕ) where
   unfolding reading-numbers read-answer says links-start
   accepted-reads rs end e =
       let t = ap (λ j. table-of (records-of j)) e in (
-        sym (table-good none values 0 bytes [] (ap number-of e) ∙ no-line none values
+        sym (table-good none values 0 bytes [] (ap number-of e) ∙ no-lines-left none values
             ∙ ap (λ (t : Table). answered (record { routers = t .routers; links = length (t .links) })) t),
         sym (ap₂ (λ (t : Table) (start : ℕ). record { routers = t .routers; links = length (t .links); start = start }) t (ap (λ j. links-place (records-of j)) e)),
       )
@@ -107,7 +107,7 @@ module _ (bytes : List ℕ) where
     where
       go : (j : Judged) → read bytes ≡ j → read-answer bytes .refusal ≡ of-table 0 bytes
       go (accepted rs end) e =
-          ap (λ a. a .refusal) (table-good none values 0 bytes [] (ap number-of e) ∙ no-line none values)
+          ap (λ a. a .refusal) (table-good none values 0 bytes [] (ap number-of e) ∙ no-lines-left none values)
           ∙ sym (ap (λ j. record { number = number-of j; table = 0; place = place-of j }) e)
       go (refused number place) e = tables-first .of-read bytes (λ z. omega (arith, sym (ap number-of e) ∙ z, table-refusals bytes number place e))
 

@@ -67,13 +67,13 @@ returns c =
     let w = c .before .before .before .before .before .before .before .before .loop .inv in
     ends _ _ _ _ _ w (omega arith) (c .if3 .taken)
 
-changed-requires : tie.Need-changed-requires Inv-loop μ-loop
-changed-requires c κs = search needs
+differ-by-requires : tie.Need-differ-by-requires Inv-loop μ-loop
+differ-by-requires c κs = search needs
 
 add-count-3 : tie.Need-add-count-3 Inv-loop μ-loop
 add-count-3 c =
     let w = c .before .before .before .before .before .before .before .before .before .loop .inv in
-    omega (arith, count-small _ _ _ _ _ (both-turn _ _ _ _ _ w (omega arith) (c .before .if3 .left) _ (c .changed .ensures) _ _ refl refl .0))
+    omega (arith, count-small _ _ _ _ _ (both-turn _ _ _ _ _ w (omega arith) (c .before .if3 .left) _ (c .differ-by .ensures) _ _ refl refl .0))
 
 front-at-requires-5 : tie.Need-front-at-requires-5 Inv-loop μ-loop
 front-at-requires-5 c κs = search needs
@@ -86,14 +86,14 @@ loop-less-3 c =
     let w = c .before .before .before .before .before .before .before .before .before .before .before .loop .inv in
     omega (
       arith,
-      both-turn _ _ _ _ _ w (omega arith) (c .before .before .before .if3 .left) _ (c .before .before .changed .ensures) _ _
+      both-turn _ _ _ _ _ w (omega arith) (c .before .before .before .if3 .left) _ (c .before .before .differ-by .ensures) _ _
           (c .before .front-at5 .ensures) (c .front-at6 .ensures),
     )
 
 loop-again-3 : tie.Need-loop-again-3 Inv-loop μ-loop
 loop-again-3 c =
     let w = c .before .before .before .before .before .before .before .before .before .before .before .loop .inv in
-    both-turn _ _ _ _ _ w (omega arith) (c .before .before .before .if3 .left) _ (c .before .before .changed .ensures) _ _
+    both-turn _ _ _ _ _ w (omega arith) (c .before .before .before .if3 .left) _ (c .before .before .differ-by .ensures) _ _
     (c .before .front-at5 .ensures) (c .front-at6 .ensures) .0
 
 pub count-differing-spec : {M : Type 1} → statement M
@@ -114,7 +114,7 @@ count-differing-spec =
     loop-less-2
     loop-again-2
     returns
-    changed-requires
+    differ-by-requires
     add-count-3
     front-at-requires-5
     front-at-requires-6

@@ -1,11 +1,11 @@
--- `names::name` meets its contract.
+-- `names::name_in_two` meets its contract.
 -- Assumes nothing.
 use mathlib.Core.Bool.{true, false}
 use borrow.Author.Tests.{eq-eqb, ne-eqb}
 use borrow.Author.Needs.{needs}
 use Rattle.names.proofs.Namings.{two-empty, two-within, two-part}
-use Rattle.names.proofs.name.Statement.{statement}
-use Rattle.names.proofs.name.Tie as tie
+use Rattle.names.proofs.name_in_two.Statement.{statement}
+use Rattle.names.proofs.name_in_two.Tie as tie
 
 naming-in-two-requires : tie.Need-naming-in-two-requires
 naming-in-two-requires c κs = search needs
@@ -41,8 +41,8 @@ returns-3 c =
     let m = c .before .before .before in
     two-part _ _ _ _ (m .before .before .naming-in-two .ensures) _ _ _ (m .naming .given .1) false (ne-eqb _ _ (c .before .if1 .left)) _ (c .part-at3 .ensures)
 
-pub name-spec : {M : Type 1} → statement M
-name-spec =
+pub name-in-two-spec : {M : Type 1} → statement M
+name-in-two-spec =
     tie.close
     (tie.spec
     naming-in-two-requires
