@@ -1,11 +1,11 @@
 -- One walk along the links of two tables: what is left of each, what is counted so far, and one turn.
 -- Assumes nothing.
-use mathlib.Core.Path.{_≡_, refl, sym}
+use mathlib.Core.Path.{_≡_, refl, sym, _∙_, ap}
 use mathlib.Core.Logic.{_≢_}
 use mathlib.Core.List.{List, [], _∷_}
 use Prim.Native.Nat.{ℕ, _+_, _*_, _≤_, _<_}
 use native.Mathlib.Omega.{arith}
-use Rattle.rules.specs.Layout.{Link, pair-number}
+use Rattle.rules.specs.Layout.{Link, LinkFits, pair-number}
 use Rattle.rules.specs.Table.{says}
 use Rattle.rules.specs.Demand1.{IsAccepted}
 use Rattle.rules.specs.Pairs.{differing}
@@ -95,6 +95,28 @@ pass bytes f f′ (l ∷ ls) h b q =
       higher = rises bytes f′ ls f b rest (rw (sym (h .leads .0)) at (h .in-order .1));
     }
 
+-- the pair in front of one table is lower than that of the other: it is passed, and counts one wherever a lower link does
+record Turned (bytes : List ℕ) (f f′ : Front) (ls ms : List Link) (differ : List Link → List Link → ℕ) : Type 0 where
+  others : List Link
+  rest : Left bytes f′ others
+  one-more : differ ls ms ≡ 1 + differ others ms
+  higher : Rises f f′
+
+turn : (bytes other : List ℕ) (f f′ g : Front) (ls ms : List Link) (differ : List Link → List Link → ℕ) → Left bytes f ls → Left other g ms → f .pair < g .pair
+    → f′ ≡ front-at bytes (f .behind)
+    → ((l : Link) (ls : List Link) → LinkFits 64 l → Ordered ms → Above (pair-number l) ms → differ (l ∷ ls) ms ≡ 1 + differ ls ms)
+    → Turned bytes f f′ ls ms differ
+turn bytes other f f′ g ls ms differ h k lower q only =
+    let x = pass bytes f f′ ls h (omega (arith, at-most other g ms k)) q in
+    record {
+      others = x .others;
+      rest = x .rest;
+      one-more =
+          ap (λ ls. differ ls ms) (x .whole)
+          ∙ only (x .first) (x .others) (x .in-order .0) (k .in-order) (above other g (pair-number (x .first)) ms k (omega (arith, x .pair-in-front)));
+      higher = x .higher;
+    }
+
 -- ---- the walk along both tables
 
 module _ (old new : List ℕ) where
@@ -132,44 +154,14 @@ module _ (old new : List ℕ) where
     -- the pair in front is lower in the old table: it is in that one only
     pub old-turn : o .pair < n .pair → (o′ : Front) → o′ ≡ front-at old (o .behind) → Walk o′ n (count + 1) × Rises o o′
     old-turn h o′ q =
-        let x = pass old o o′ (w .os) (w .old-left) (omega (arith, at-most new n (w .ns) (w .new-left))) q in (
-          record {
-            os = x .others;
-            ns = w .ns;
-            old-left = x .rest;
-            new-left = w .new-left;
-            counted =
-                omega (
-                  arith,
-                  rw (x .whole) at (w .counted),
-                  old-only (x .first) (x .others) (w .ns) (x .in-order .0) (w .new-left .in-order)
-                      (above new n (pair-number (x .first)) (w .ns) (w .new-left) (omega (arith, x .pair-in-front))),
-                );
-            few = w .few;
-          },
-          x .higher,
-        )
+        let x = turn old new o o′ n (w .os) (w .ns) differ-in (w .old-left) (w .new-left) h q (λ l ls. old-only l ls (w .ns)) in
+        (record { os = x .others; ns = w .ns; old-left = x .rest; new-left = w .new-left; counted = omega (arith, w .counted, x .one-more); few = w .few }, x .higher)
 
     -- the other way round
     pub new-turn : n .pair < o .pair → (n′ : Front) → n′ ≡ front-at new (n .behind) → Walk o n′ (count + 1) × Rises n n′
     new-turn h n′ q =
-        let x = pass new n n′ (w .ns) (w .new-left) (omega (arith, at-most old o (w .os) (w .old-left))) q in (
-          record {
-            os = w .os;
-            ns = x .others;
-            old-left = w .old-left;
-            new-left = x .rest;
-            counted =
-                omega (
-                  arith,
-                  rw (x .whole) at (w .counted),
-                  new-only (x .first) (w .os) (x .others) (x .in-order .0) (w .old-left .in-order)
-                      (above old o (pair-number (x .first)) (w .os) (w .old-left) (omega (arith, x .pair-in-front))),
-                );
-            few = w .few;
-          },
-          x .higher,
-        )
+        let x = turn new old n n′ o (w .ns) (w .os) (λ ns os. differ-in os ns) (w .new-left) (w .old-left) h q (λ l ls. new-only l (w .os) ls) in
+        (record { os = w .os; ns = x .others; old-left = w .old-left; new-left = x .rest; counted = omega (arith, w .counted, x .one-more); few = w .few }, x .higher)
 
     module _ (e : o .pair ≡ n .pair) where
       -- one pair in front of both

@@ -52,11 +52,11 @@ first-holds P (l ∷ ls) a hs h = go (l .applies) (hs .0) (first-holds P ls a (h
 -- ---- tables
 
 -- if it refuses, then by one of 1 to 7
-abbrev By-1-to-7 : Judged → Type 0
+abbrev pub By-1-to-7 : Judged → Type 0
 By-1-to-7 (accepted rs end) = Unit {0}
 By-1-to-7 (refused number place) = (1 ≤ number) × (number ≤ 7)
 
-judged-by : {kept : Kept} {place : ℕ} {left : List ℕ} {j : Judged} → Judges kept place left j → By-1-to-7 j
+pub judged-by : {kept : Kept} {place : ℕ} {left : List ℕ} {j : Judged} → Judges kept place left j → By-1-to-7 j
 judged-by (stops q a b) = omega arith
 judged-by (ends g e) = tt
 judged-by (goes {place = place} {left = left} {j = j} g e r) = go (record-in place left) j (judged-by r)

@@ -12,14 +12,18 @@ use Rattle.rules.specs.Table.{Record, Judged, accepted, refused, judge, nothing
 use Rattle.rules.specs.Demand1.{IsAccepted}
 use Rattle.rules.specs.Questions.{refusal, of-table, answered, Reading, read-answer}
 use Rattle.rules.proofs.Basics.{pick-t, pick-f}
+use Rattle.rules.proofs.Judging.{judge-judges}
 use Rattle.rules.proofs.Lines.{no-lines-left, table-bad, table-good}
-use Rattle.rules.proofs.Refusals.{table-refusals, tables-first}
-use Rattle.tables.specs.Readings.{judged-of, links-place, links-start, reading-numbers, outline-of, Reads}
+use Rattle.rules.proofs.Refusals.{By-1-to-7, judged-by, table-refusals, tables-first}
+use Rattle.tables.specs.Readings.{judged-numbers, judging-answer, Numbered, JudgedTo, links-place, links-start, reading-numbers, outline-of, Reads}
+use Rattle.tables.specs.declared.Judged.{Judged as JudgedHere}
 use Rattle.tables.specs.declared.Judged.the-variants as here
 use Rattle.tables.specs.declared.Outline.{Outline}
 use Rattle.tables.specs.declared.Reading.{Reading as ReadingHere}
 use Rattle.tables.specs.declared.Reading.the-variants.{Accepted, Refused}
 use Rattle.tables.proofs.Places.{judged-ends}
+use Rattle.tables.proofs.Turns.{judged-of}
+use Rattle.tables.proofs.Settled.{judge-settled}
 
 -- ---- the reading question, from what judging tells
 
@@ -30,6 +34,21 @@ module _ (bytes : List ℕ) where
 
   abbrev values : Reading
   values = record { routers = says bytes .routers; links = length (says bytes .links) }
+
+  -- what judging answers is the case for what is judged
+  judged-so : JudgedTo bytes (judged-of (judge bytes))
+  unfolding judged-of judged-numbers judging-answer
+  judged-so = go (judge bytes) (judged-by (judge-judges bytes))
+    where
+      go : (j : Judged) → By-1-to-7 j → (judged-numbers (judged-of j) ≡ judging-answer j) × Numbered (judged-of j)
+      go (accepted rs end) h = (refl, tt)
+      go (refused number place) h = (refl, omega arith)
+
+  pub judged-as : (r : JudgedHere) → r ≡ judged-of (judge bytes) → JudgedTo bytes r
+  judged-as r e = subst (JudgedTo bytes) (sym e) judged-so
+
+  pub told-so : (r : JudgedHere) → JudgedTo bytes r → judged-of (judge bytes) ≡ r
+  told-so r p = judge-settled bytes (judged-of (judge bytes)) r judged-so p
 
   -- what is read decides
   refused-reads : (number place : ℕ) → read bytes ≡ refused number place → Reads bytes (Refused number place)

@@ -4,14 +4,16 @@ use mathlib.Core.Path.{_≡_, sym, _∙_, ap}
 use mathlib.Core.List.{List}
 use Prim.Native.Nat.{ℕ, _+_, _*_}
 use native.Mathlib.Omega.{arith}
-use Rattle.rules.specs.Table.{Step, good, bad, judge}
+use Rattle.rules.specs.Table.{Step, good, bad}
 use Rattle.rules.specs.Promises.{Settles}
 use Rattle.rules.proofs.Uniqueness.{value-settled, equations-settle}
 use Rattle.tables.specs.Steps.{step-of, StepsTo}
-use Rattle.tables.specs.Readings.{judged-of, JudgedTo, reading-numbers, Outlined, Reads}
+use Rattle.tables.specs.Readings.{judged-numbers, Numbered, JudgedTo, reading-numbers, Outlined, Reads}
 use Rattle.tables.specs.declared.Kept.{Kept}
 use Rattle.tables.specs.declared.Step.{Step as StepHere}
 use Rattle.tables.specs.declared.Step.the-variants as here
+use Rattle.tables.specs.declared.Judged.{Judged as JudgedHere}
+use Rattle.tables.specs.declared.Judged.the-variants as judged
 use Rattle.tables.specs.declared.Reading.{Reading}
 use Rattle.tables.specs.declared.Reading.the-variants.{Accepted, Refused}
 
@@ -43,10 +45,18 @@ step-apart bytes place (here.Refused number at) (here.Refused number′ at′) e
 pub next-record-settled : (bytes : List ℕ) (place : ℕ) (kept : Kept) → Settles (StepsTo bytes place kept)
 next-record-settled bytes place kept = equations-settle _ _ (step-of bytes place) (step-apart bytes place) _
 
-pub judge-settled : (bytes : List ℕ) → Settles (JudgedTo bytes)
-judge-settled bytes = value-settled (judged-of (judge bytes))
+-- the numbers tell accepted and refused apart, since a refusal has a number
+pub judged-apart : (x y : JudgedHere) → Numbered x → Numbered y → judged-numbers x ≡ judged-numbers y → x ≡ y
+unfolding judged-numbers
+judged-apart (judged.Accepted n k end) (judged.Accepted n′ k′ end′) p q e = λ i. judged.Accepted (e i .values .routers) (e i .values .links) (e i .values .end)
+judged-apart (judged.Accepted n k end) (judged.Refused number place) p q e = absurd (q (sym (ap (λ a. a .refusal .number) e)))
+judged-apart (judged.Refused number place) (judged.Accepted n k end) p q e = absurd (p (ap (λ a. a .refusal .number) e))
+judged-apart (judged.Refused number place) (judged.Refused number′ place′) p q e = λ i. judged.Refused (e i .refusal .number) (e i .refusal .place)
 
--- the numbers tell accepted and refused apart, since a refusal has a number; the outline settles an accepted table
+pub judge-settled : (bytes : List ℕ) → Settles (JudgedTo bytes)
+judge-settled bytes x y p q = judged-apart x y (p .1) (q .1) (p .0 ∙ sym (q .0))
+
+-- so do those of a reading, and the outline settles an accepted table
 pub reading-apart : (bytes : List ℕ) (x y : Reading) → Outlined bytes x → Outlined bytes y → reading-numbers x ≡ reading-numbers y → x ≡ y
 unfolding reading-numbers
 reading-apart bytes (Accepted t) (Accepted u) p q e = ap (λ t. Accepted t) (p ∙ sym q)

@@ -96,6 +96,14 @@ name-long tag len h e = leb-true 2 len (both (leb 2 len) (leb len 17) (go (rw e 
 
 -- ---- the contents
 
+pub routers-none : (n : ℕ) → n ≡ 0 → false ≡ routers-fit n
+unfolding routers-fit
+routers-none n e = rw e
+
+pub routers-some : (n : ℕ) → n ≢ 0 → leb n 64 ≡ routers-fit n
+unfolding routers-fit
+routers-some n e = rw (le-leb 1 n (omega arith))
+
 -- one byte of a name; what is known of the bytes from place i on comes first
 module _ (contents : List ℕ) (i : ℕ) (r : Bool) (inv : every name-byte (drop i contents) ≡ r) where
   pub byte-low : i < length contents → byte contents i < 0x21 → false ≡ r
@@ -156,17 +164,9 @@ module _ (contents : List ℕ) (n : ℕ) where
   unfolding contents-fit
   fit-name = refl
 
-  pub fit-none : byte contents 0 ≡ 0 → contents-fit n tag-routers contents ≡ false
-  unfolding contents-fit routers-fit
-  fit-none h = rw h
-
-  pub fit-many : 64 < byte contents 0 → contents-fit n tag-routers contents ≡ false
-  unfolding contents-fit routers-fit
-  fit-many h = rw (lt-leb (byte contents 0) 64 h) (and-false (leb 1 (byte contents 0)))
-
-  pub fit-routers : byte contents 0 ≢ 0 → byte contents 0 ≤ 64 → contents-fit n tag-routers contents ≡ true
-  unfolding contents-fit routers-fit
-  fit-routers h m = rw (le-leb 1 (byte contents 0) (omega arith), le-leb (byte contents 0) 64 m)
+  pub fit-routers : (tag : ℕ) → tag ≡ tag-routers → contents-fit n tag contents ≡ routers-fit (byte contents 0)
+  unfolding contents-fit
+  fit-routers tag e = rw e
 
   pub fit-else : (tag : ℕ) → tag ≢ tag-link → tag ≢ tag-name → tag ≢ tag-routers → contents-fit n tag contents ≡ true
   unfolding contents-fit

@@ -19,7 +19,7 @@ use Rattle.rules.proofs.Judging.{size-in, contents-in, Good, Steps, gives, refu
 use Rattle.rules.proofs.AtPlace.{left-behind, whole-there}
 use Rattle.rules.proofs.Records.{tag-order, length-contents}
 use Rattle.tables.specs.Steps.{record-from, step-of, record-with}
-use Rattle.tables.specs.Readings.{judged-of, refusal-in}
+use Rattle.tables.specs.Readings.{refusal-in}
 use Rattle.tables.specs.declared.Step.{Step as StepHere}
 use Rattle.tables.proofs.Step.{enum}
 use denote.Enum.Declared.{tagOf, declared}
@@ -39,6 +39,11 @@ kept-after kept (r ∷ rs) = kept-after (keep kept r) rs
 pub told : Kept → Judged → JudgedHere
 told kept (accepted rs end) = Accepted (kept-after kept rs .routers) (kept-after kept rs .links) end
 told kept (refused number place) = Refused number place
+
+-- the case for what is judged
+unfoldable pub judged-of : Judged → JudgedHere
+judged-of (accepted rs end) = Accepted (table-of rs .routers) (length (table-of rs .links)) end
+judged-of (refused number place) = Refused number place
 
 -- one more for each link
 links-kept : (kept : Kept) (rs : List Record) → kept-after kept rs .links ≡ kept .links + length (table-of rs .links)

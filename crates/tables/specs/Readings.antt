@@ -15,19 +15,42 @@ use Rattle.tables.specs.declared.Outline.{Outline}
 use Rattle.tables.specs.declared.Reading.{Reading as ReadingHere}
 use Rattle.tables.specs.declared.Reading.the-variants.{Accepted, Refused}
 
--- what judging tells of the records up to the end record: N, how many links, and where the table ends
-unfoldable pub judged-of : Judged → JudgedHere
-judged-of (accepted rs end) = judged.Accepted (table-of rs .routers) (length (table-of rs .links)) end
-judged-of (refused number place) = judged.Refused number place
+-- ---- judging up to the end record
 
--- r is what judging tells of these bytes
+-- N, how many links, and where the table ends
+pub record Judging : Type 0 where
+  pub routers : ℕ
+  pub links : ℕ
+  pub end : ℕ
+
+abbrev pub nothing-judged : Judging
+nothing-judged = record { routers = 0; links = 0; end = 0 }
+
+-- what judging answers, from what the rules judge
+unfoldable pub judging-answer : Judged → Answer Judging
+judging-answer (accepted rs end) = answered (record { routers = table-of rs .routers; links = length (table-of rs .links); end = end })
+judging-answer (refused number place) = refused-with nothing-judged number 0 place
+
+-- the numbers of each case
+unfoldable pub judged-numbers : JudgedHere → Answer Judging
+judged-numbers (judged.Accepted routers links end) = answered (record { routers = routers; links = links; end = end })
+judged-numbers (judged.Refused number place) = refused-with nothing-judged number 0 place
+
+-- a refusal has a number
+abbrev pub Numbered : JudgedHere → Type 0
+Numbered (judged.Accepted routers links end) = Unit {0}
+Numbered (judged.Refused number place) = IsNumber number
+
+-- r is what judging answers to these bytes
 abbrev pub JudgedTo : List ℕ → JudgedHere → Type 0
-JudgedTo bytes r = r ≡ judged-of (judge bytes)
+JudgedTo bytes r = (judged-numbers r ≡ judging-answer (judge bytes)) × Numbered r
 
 -- the refusal that a step gave; no other step is asked for one
 unfoldable pub refusal-in : StepHere → JudgedHere
 refusal-in (step.Record tag end) = judged.Refused 0 end
 refusal-in (step.Refused number place) = judged.Refused number place
+
+-- ---- the reading question
 
 -- where the links start: the place of the first record whose tag is not below a link's
 unfoldable pub links-place : List Record → ℕ

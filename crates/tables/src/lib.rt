@@ -4,8 +4,8 @@ ghost use mathlib.Core.Bool.{true, _&&_};
 ghost use Prim.Native.Nat.{_+_, _*_, _<_, _≤_};
 ghost use lib.ListN.{length, drop};
 ghost use Rattle.rules.specs.Words.{_=?_, _≤?_, every};
-ghost use Rattle.rules.specs.Layout.{tag-routers, tag-name, tag-link};
-ghost use Rattle.rules.specs.Table.{byte, bad-tag, length-allowed, name-byte, name-fits, link-fits, link-of, key, keep};
+ghost use Rattle.rules.specs.Layout.{tag-name, tag-link};
+ghost use Rattle.rules.specs.Table.{byte, bad-tag, length-allowed, routers-fit, name-byte, name-fits, link-fits, link-of, key, keep};
 ghost use Rattle.tables.specs.Steps.{kept-of, contents-number, record-with, StepsTo};
 ghost use Rattle.tables.specs.Readings.{refusal-in, JudgedTo, Reads};
 
@@ -116,6 +116,16 @@ fn is_plain(contents: &[u8]) -> bool
     true
 }
 
+// N is in range.
+fn routers_are_fit(routers: u8) -> bool
+    ensures { λ r. ⌜ r ≡ routers-fit routers ⌝ }
+{
+    if routers == 0 {
+        return false;
+    }
+    routers <= 64
+}
+
 // A name's contents are in range: its router, then its bytes.
 fn name_is_fit(contents: &[u8], routers: u8) -> bool
     requires { ⌜ 1 ≤ length (now contents) ⌝ }
@@ -198,21 +208,6 @@ fn name_number(contents: &[u8], kept: Kept) -> u8
     0
 }
 
-// The number that refuses the contents of the routers record.
-fn routers_number(contents: &[u8], kept: Kept) -> u8
-    requires { ⌜ 1 ≤ length (now contents) ⌝ }
-    ensures { λ r. ⌜ r ≡ contents-number (kept-of kept) tag-routers (now (contents .entry)) ⌝ }
-{
-    let routers = contents[0];
-    if routers == 0 {
-        return 4;
-    }
-    if 64 < routers {
-        return 4;
-    }
-    0
-}
-
 // The inner reader: the number that refuses the contents of a record, judged as a part of their own: 4, 5 or 6; 0 for none.
 fn contents_number(contents: &[u8], tag: u8, kept: Kept) -> u8
     requires { ⌜ length-allowed tag (length (now contents)) ≡ true ⌝ }
@@ -225,7 +220,10 @@ fn contents_number(contents: &[u8], tag: u8, kept: Kept) -> u8
         return name_number(contents, kept);
     }
     if tag == ROUTERS {
-        return routers_number(contents, kept);
+        if !routers_are_fit(contents[0]) {
+            return 4;
+        }
+        return 0;
     }
     0
 }

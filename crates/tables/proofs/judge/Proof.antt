@@ -7,8 +7,8 @@ use lib.ListN.{length}
 use borrow.Author.Needs.{needs}
 use Rattle.rules.specs.Table.{judge}
 use Rattle.tables.specs.Steps.{kept-of}
-use Rattle.tables.specs.Readings.{judged-of}
-use Rattle.tables.proofs.Turns.{Found, found, found-inside, found-length, found-few, told-from, told-first, told-refused, told-ended, told-next}
+use Rattle.tables.proofs.Asked.{judged-as}
+use Rattle.tables.proofs.Turns.{Found, found, found-inside, found-length, found-few, judged-of, told-from, told-first, told-refused, told-ended, told-next}
 use Rattle.tables.proofs.judge.Statement.{statement}
 use Rattle.tables.proofs.judge.Tie as tie
 use Rattle.tables.proofs.judge.Reads as reads
@@ -58,12 +58,16 @@ refusal-requires c κs = search needs
 returns : tie.Need-returns Inv-loop μ-loop
 returns c =
     let m = c .before .before .before .before in
+    judged-as _ _ (
     c .refusal .ensures
     ∙ told-refused (m .before .before .args .table .now) (m .loop .place) _ _ (c .before .before .match .keys2) (c .before .before .before .next-record .ensures)
     ∙ m .loop .inv .1
+    )
 
 returns-2 : tie.Need-returns-2 Inv-loop μ-loop
-returns-2 c = let m = c .before .before in told-ended _ _ _ _ _ (there m) (c .if1 .taken) ∙ m .before .before .before .loop .inv .1
+returns-2 c =
+    let m = c .before .before in
+    judged-as _ _ (told-ended _ _ _ _ _ (there m) (c .if1 .taken) ∙ m .before .before .before .loop .inv .1)
 
 add-kept-behind : tie.Need-add-kept-behind Inv-loop μ-loop
 add-kept-behind c = omega (arith, found-inside _ _ _ _ _ (there (c .before .before)))
