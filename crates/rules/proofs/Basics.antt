@@ -13,7 +13,7 @@ use lib.Dec.{eqb, ltb}
 use lib.ListN.{length, getD, take, drop, length-append, length-map, List·getD-append}
 use lib.Seq.{getD-at, take-nil}
 use borrow.Author.Tests.{ltb-true, lt-ltb, le-ltb, eq-eqb, ne-eqb}
-use Rattle.rules.specs.Words.{pick, every, those, tally, below, All, Distinct}
+use Rattle.rules.specs.Words.{pick, every, those, tally, below, All, Distinct, Rising}
 
 -- ---- tests
 
@@ -118,6 +118,20 @@ module _ {A : Type 0} where
   All-append P [] ys g h = h
   All-append P (x ∷ xs) ys g h = (g .0, All-append P xs ys (g .1) h)
 
+  -- of those before an element, and of it
+  pub All-before : (P : A → Type 0) (xs : List A) (y : A) (ys : List A) → All P (xs ++ (y ∷ ys)) → All P xs × P y
+  All-before P [] y ys h = (tt, h .0)
+  All-before P (x ∷ xs) y ys h = let (f, g) = All-before P xs y ys (h .1) in ((h .0, f), g)
+
+  -- where values rise, those before an element are lower
+  pub lower-before : (f : A → ℕ) (xs : List A) (y : A) (ys : List A) → Rising (map f (xs ++ (y ∷ ys))) → All (λ x. f x < f y) xs
+  lower-before f [] y ys h = tt
+  lower-before f (x ∷ xs) y ys h = (last xs (h .0), lower-before f xs y ys (h .1))
+    where
+      last : (xs : List A) → All (λ n. f x < n) (map f (xs ++ (y ∷ ys))) → f x < f y
+      last [] h = h .0
+      last (x ∷ xs) h = last xs (h .1)
+
   -- tests that agree on every element count as many, and none counts more than there are
   pub tally-same : (p q : A → Bool) (xs : List A) → All (λ x. p x ≡ q x) xs → tally p xs ≡ tally q xs
   unfolding tally
@@ -152,6 +166,13 @@ module _ {A : Type 0} where
   unfolding every
   true-every p P f [] h = refl
   true-every p P f (x ∷ xs) h = rw (f x (h .0), true-every p P f xs (h .1))
+
+-- ---- an element does not depend on what would stand behind the end
+
+pub any-default : {A : Type 0} (l : List A) (i : ℕ) (d e : A) → i < length l → getD l i d ≡ getD l i e
+any-default [] i d e h = absurd (omega arith)
+any-default (x ∷ xs) zero d e h = refl
+any-default (x ∷ xs) (suc i) d e h = any-default xs i d e (omega arith)
 
 -- ---- a part of a part
 

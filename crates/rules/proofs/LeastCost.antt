@@ -1,6 +1,6 @@
 -- The executable cost is the least of all routes; it obeys the laws of a cost; and the certificate by which any algorithm is proved.
 -- Assumes nothing.
-use mathlib.Core.Path.{_≡_, refl}
+use mathlib.Core.Path.{_≡_, refl, sym, _∙_, ap}
 use mathlib.Core.Logic.{_≢_}
 use mathlib.Core.Bool.{Bool, true, false}
 use Prim.Native.Nat.{ℕ, zero, suc, _+_, _≤_, _<_, min}
@@ -14,7 +14,7 @@ use Rattle.rules.specs.Layout.{Table, Obeys}
 use Rattle.rules.specs.Links.{weight}
 use Rattle.rules.specs.Routes.{Route, arrived, via}
 use Rattle.rules.specs.Costs.{LeastCost, least, none, no-cost, direct, best, cost}
-use Rattle.rules.specs.Demand2.{CostsAreLeast, OneLeastCost, RealCostsAreSmall, CostsHoldBothWays, CertifiedIsCost}
+use Rattle.rules.specs.Demand2.{CostsAreLeast, OneLeastCost, RealCostsAreSmall, CostsHoldBothWays, Certified, CertifiedIsCost}
 use Rattle.rules.proofs.CostLaws.{Net, BothWays, Costs, Next, at-most, near}
 use Rattle.rules.proofs.Weights.{net, both-ways}
 
@@ -141,7 +141,7 @@ module _ {n : ℕ} {w : ℕ → ℕ → ℕ} (𝓝 : Net n w) (d : ℕ) where
   first-link i c a arrived e = absurd (a refl)
   first-link i c a (via {k = k} l r) e = (k, record { link = l; sums = omega (arith, best-least r, best-relax i k l) })
 
-  best-costs : Costs w d (λ i. best w n i d)
+  pub best-costs : Costs w d (λ i. best w n i d)
   best-costs = record {
     top = best-top;
     home = best-self w n d;
@@ -162,6 +162,40 @@ module _ {n : ℕ} {w : ℕ → ℕ → ℕ} (𝓝 : Net n w) (d : ℕ) where
       go (no f) =
           let e : best w n i d ≡ no-cost = omega (arith, best-top i) in
           rw e (none (λ c r. f (reached r)))
+
+-- ---- the certificate, and costs the other way, over any weights
+
+-- a function with a certificate up to B is the cost wherever it is at most B
+pub certified-is-best : {n : ℕ} {w : ℕ → ℕ → ℕ} → Net n w → (d B : ℕ) (f : ℕ → ℕ) → Certified w d B f → (i : ℕ) → f i ≤ B → f i ≡ best w n i d
+certified-is-best {n} {w} 𝓝 d B f h i b = go (best-is-least 𝓝 d i)
+  where
+    -- no route is cheaper than f, and f is the cost of a route or 4294967295
+    go : {c : ℕ} → LeastCost w i d c → f i ≡ c
+    go (least {c} r p g) = real (decLt (f i) no-cost)
+      where
+        real : Dec (f i < no-cost) → f i ≡ c
+        real (yes q) = omega (arith, no-cheaper {B = B} (h .home) (h .relaxed) r, p (f i) (h .routed i q))
+        real (no q) = omega (arith, no-cheaper {B = B} (h .home) (h .relaxed) r)
+    go (none p) = unreal (decLt (f i) no-cost)
+      where
+        unreal : Dec (f i < no-cost) → f i ≡ no-cost
+        unreal (yes q) = absurd (p (f i) (h .routed i q))
+        unreal (no q) = omega (arith, h .top i)
+
+-- over weights turned round, the cost from i to d is the cost from d to i
+pub best-turned : (w : ℕ → ℕ → ℕ) (n i d : ℕ) → best (λ a b. w b a) n i d ≡ best w n d i
+unfolding best direct
+best-turned w zero i d = ap (λ t. pick t 0 (pick (eqb (w d i) 0) no-cost (w d i))) (go (ℕ-discrete i d))
+  where
+    go : Dec (i ≡ d) → eqb i d ≡ eqb d i
+    go (yes e) = eq-eqb i d e ∙ sym (eq-eqb d i (sym e))
+    go (no a) = ne-eqb i d a ∙ sym (ne-eqb d i (λ e. a (sym e)))
+best-turned w (suc m) i d =
+    rw (best-turned w m i d, best-turned w m i m, best-turned w m m d, add-comm (best w m m i) (best w m d m))
+
+-- routers that no link reaches change no cost
+pub best-routers : {m n : ℕ} {w : ℕ → ℕ → ℕ} → Net m w → Net n w → (i d : ℕ) → best w m i d ≡ best w n i d
+best-routers {m} {n} {w} 𝓜 𝓝 i d = one-least-cost w i d (best w m i d) (best w n i d) (best-is-least 𝓜 d i) (best-is-least 𝓝 d i)
 
 -- ---- the theorems
 
@@ -186,17 +220,5 @@ costs-hold-both-ways t o i d =
     turned (none p) = none (λ e s. p e (back (both-ways t) s))
 
 pub certified-is-cost : CertifiedIsCost
-certified-is-cost t o d B f h i b = go (costs-are-least t o i d)
-  where
-    -- no route is cheaper than f, and f is the cost of a route or 4294967295
-    go : {c : ℕ} → LeastCost (weight t) i d c → f i ≡ c
-    go (least {c} r p g) = real (decLt (f i) no-cost)
-      where
-        real : Dec (f i < no-cost) → f i ≡ c
-        real (yes q) = omega (arith, no-cheaper {B = B} (h .home) (h .relaxed) r, p (f i) (h .routed i q))
-        real (no q) = omega (arith, no-cheaper {B = B} (h .home) (h .relaxed) r)
-    go (none p) = unreal (decLt (f i) no-cost)
-      where
-        unreal : Dec (f i < no-cost) → f i ≡ no-cost
-        unreal (yes q) = absurd (p (f i) (h .routed i q))
-        unreal (no q) = omega (arith, h .top i)
+unfolding cost
+certified-is-cost t o d B f h i b = certified-is-best (net t o) d B f h i b

@@ -269,7 +269,8 @@ name-fine kept m s f = record {
 }
 
 -- a link passes the test where it fits
-fits-link : (n : ℕ) (l : Link) → link-fits n l ≡ true → LinkFits n l
+-- a link fits where it passes the test, and passes it where it fits
+pub fits-link : (n : ℕ) (l : Link) → link-fits n l ≡ true → LinkFits n l
 unfolding link-fits
 fits-link n l e =
     let (p, light) = both (ltb (l .a) n && ltb (l .b) n && ltb (l .a) (l .b) && leb 1 (l .weight)) (leb (l .weight) 65535) e in
@@ -282,9 +283,9 @@ fits-link n l e =
       weight-fits = leb-true (l .weight) 65535 light;
     }
 
-link-in : (n : ℕ) (l : Link) → LinkFits n l → link-fits n l ≡ true
+pub link-passes : (n : ℕ) (l : Link) → LinkFits n l → link-fits n l ≡ true
 unfolding link-fits
-link-in n l f =
+link-passes n l f =
     rw (
       lt-ltb (l .a) n (omega arith),
       lt-ltb (l .b) n (f .end-below),
@@ -319,7 +320,7 @@ unfolding length-allowed contents-fit key too-many
 link-fine kept contents four s f = record {
   tagged = behind-routers kept is-link (omega arith) s (f .in-turn);
   sized = eq-eqb (length contents) 4 four;
-  fits = link-in (kept .routers) (link-of contents) (f .fits);
+  fits = link-passes (kept .routers) (link-of contents) (f .fits);
   above = key-above kept tag-link contents (f .rises);
   few = lt-leb 256 (kept .links) (f .one-more);
 }

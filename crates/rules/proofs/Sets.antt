@@ -91,7 +91,7 @@ module _ (p : ℕ → Bool) where
           rw e (omega (arith, ones-cat n 1 (set-of p n) (set-below n)))
 
   -- a set that no router is in
-  set-none : ((k : ℕ) → p k ≡ false) → (n : ℕ) → set-of p n ≡ 0
+  pub set-none : ((k : ℕ) → p k ≡ false) → (n : ℕ) → set-of p n ≡ 0
   unfolding set-of
   set-none h zero = refl
   set-none h (suc n) = rw (h n, set-none h n)
@@ -99,7 +99,7 @@ module _ (p : ℕ → Bool) where
 -- ---- any number as a set
 
 -- the members below n are the n lowest digits
-has-all : (set n : ℕ) → set-of (has set) n ≡ set % 2 ^ n
+pub has-all : (set n : ℕ) → set-of (has set) n ≡ set % 2 ^ n
 unfolding set-of has
 has-all set zero = omega arith
 has-all set (suc n) =
@@ -120,7 +120,7 @@ has-below set n k h l =
     rw (div-eq-of-lt b)
 
 -- half a number has the members of the number, each one lower
-half : (set z : ℕ) → has set (suc z) ≡ has (set / 2) z
+pub half : (set z : ℕ) → has set (suc z) ≡ has (set / 2) z
 unfolding has
 half set z =
     let o : 1 + z ≡ suc z = omega arith in
@@ -128,12 +128,12 @@ half set z =
     rw e
 
 -- router 0 is the lowest digit
-lowest-digit : (set : ℕ) → has set 0 ≡ eqb (set % 2) 1
+pub lowest-digit : (set : ℕ) → has set 0 ≡ eqb (set % 2) 1
 unfolding has
 lowest-digit set = rw (div-one set)
 
 -- the trailing zeros are the lowest member
-trailing : (m set : ℕ) → 0 < set → set < 2 ^ m
+pub trailing : (m set : ℕ) → 0 < set → set < 2 ^ m
     → (has set (trailingZeros m set) ≡ true) × ((k : ℕ) → has set k ≡ true → trailingZeros m set ≤ k)
 unfolding trailingZeros
 trailing zero set s b = absurd (omega arith)
@@ -154,13 +154,13 @@ trailing (suc m) set s b = go (set % 2) refl (trailing m (set / 2))
     go (suc (suc d)) e ih = absurd (omega arith)
 
 -- a set that no router is in
-no-bits : (set n : ℕ) → set < 2 ^ n → ((k : ℕ) → has set k ≡ false) → set ≡ 0
+pub no-bits : (set n : ℕ) → set < 2 ^ n → ((k : ℕ) → has set k ≡ false) → set ≡ 0
 no-bits set n b h = sym (mod-eq-of-lt b) ∙ sym (has-all set n) ∙ set-none (has set) h n
 
 -- ---- the theorems
 
 -- a member is below 64
-member-below : (set k : ℕ) → set < 2 ^ 64 → has set k ≡ true → k < 64
+pub member-below : (set k : ℕ) → set < 2 ^ 64 → has set k ≡ true → k < 64
 member-below set k b e = go (decLt k 64)
   where
     go : Dec (k < 64) → k < 64

@@ -90,5 +90,13 @@ net t o = record {
   small = weight-small (t .routers) (t .links) (o .links-fit);
 }
 
+-- the same among 64 routers
+pub wide : (t : Table) → Obeys t → Net 64 (weight t)
+wide t o = record {
+  few = omega arith;
+  inside = λ i k l. omega (arith, net t o .inside i k l, o .few-routers);
+  small = net t o .small;
+}
+
 pub both-ways : (t : Table) → BothWays (weight t)
 both-ways t = weight-both-ways (t .links)

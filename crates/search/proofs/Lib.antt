@@ -1,0 +1,9 @@
+pub mod Keys
+pub mod Easing
+pub mod Searching
+pub mod FirstHops
+pub mod Carrying
+pub mod Taking
+pub mod Gathering
+pub mod OfTable
+pub mod Settled

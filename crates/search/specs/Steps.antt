@@ -1,0 +1,74 @@
+-- The steps of a search: the nearest waiting router, and costs and sets carried on over its links.
+use mathlib.Core.Path.{_≡_}
+use mathlib.Core.Bool.{Bool, true, _&&_}
+use mathlib.Core.List.{List, map}
+use Prim.Native.Nat.{ℕ, _+_, _^_, _≤_, _<_}
+use lib.Bits.{bitOr}
+use lib.ListN.{length, getD}
+use Rattle.rules.specs.Words.{_=?_, _<?_, pick, below}
+use Rattle.rules.specs.Costs.{no-cost}
+use Rattle.rules.specs.NextHops.{has, set-of}
+
+-- the cost of router k; 4294967295 behind the array's end
+abbrev pub cost-at : List ℕ → ℕ → ℕ
+cost-at costs k = getD costs k no-cost
+
+-- what the type of the array says: 64 costs of 32 bits
+pub record AreCosts (costs : List ℕ) : Type 0 where
+  pub long : length costs ≡ 64
+  pub fit : (k : ℕ) → getD costs k 0 ≤ no-cost
+
+-- the same of an array of sets: 64 of 64 bits
+pub record AreSets (sets : List ℕ) : Type 0 where
+  pub long : length sets ≡ 64
+  pub fit : (k : ℕ) → getD sets k 0 < 2 ^ 64
+
+-- router m is in the set, and no member costs less
+pub record IsNearest (costs : List ℕ) (waiting m : ℕ) : Type 0 where
+  pub router : m < 64
+  pub member : has waiting m ≡ true
+  pub least : (k : ℕ) → has waiting k ≡ true → cost-at costs m ≤ cost-at costs k
+
+-- ---- costs over the links of router m
+
+-- over a link of this weight, from a router of this cost, it is cheaper than now; weight 0 is no link
+abbrev pub cheaper : ℕ → ℕ → ℕ → Bool
+cheaper weight from now = 0 <? weight && weight + from <? now
+
+-- the way over m is cheaper for router k
+abbrev pub falls : (ℕ → ℕ → ℕ) → List ℕ → ℕ → ℕ → Bool
+falls w costs m k = cheaper (w m k) (cost-at costs m) (cost-at costs k)
+
+-- router k's cost, or the cheaper one over m
+abbrev pub lowered : (ℕ → ℕ → ℕ) → List ℕ → ℕ → ℕ → ℕ
+lowered w costs m k = pick (falls w costs m k) (w m k + cost-at costs m) (cost-at costs k)
+
+-- so for every router
+unfoldable pub eased : (ℕ → ℕ → ℕ) → List ℕ → ℕ → List ℕ
+eased w costs m = map (lowered w costs m) (below 64)
+
+-- the routers whose cost fell
+unfoldable pub fallen : (ℕ → ℕ → ℕ) → List ℕ → ℕ → ℕ
+fallen w costs m = set-of (falls w costs m) 64
+
+-- ---- sets over the links of router m
+
+-- over a link of this weight, from a router of this cost, it costs what it costs now; weight 0 is no link
+abbrev pub as-cheap : ℕ → ℕ → ℕ → Bool
+as-cheap weight from now = 0 <? weight && weight + from =? now
+
+-- a cheapest route to k leads over m
+abbrev pub onward : (ℕ → ℕ → ℕ) → List ℕ → ℕ → ℕ → Bool
+onward w costs m k = as-cheap (w m k) (cost-at costs m) (cost-at costs k)
+
+-- the first hops from router i over m to k: k itself where m is i, else those to m
+abbrev pub handed : List ℕ → ℕ → ℕ → ℕ → ℕ
+handed sets i m k = pick (m =? i) (2 ^ k) (getD sets m 0)
+
+-- router k's first hops, with those over m
+abbrev pub joined : (ℕ → ℕ → ℕ) → List ℕ → ℕ → List ℕ → ℕ → ℕ → ℕ
+joined w costs i sets m k = pick (onward w costs m k) (bitOr (getD sets k 0) (handed sets i m k)) (getD sets k 0)
+
+-- so for every router
+unfoldable pub carried : (ℕ → ℕ → ℕ) → List ℕ → ℕ → List ℕ → ℕ → List ℕ
+carried w costs i sets m = map (joined w costs i sets m) (below 64)

@@ -1,0 +1,99 @@
+-- A walk over the members of a set, from the lowest on: `while rest != 0`, with the lowest member of the rest taken out at each turn.
+-- Assumes nothing.
+use mathlib.Core.Path.{_≡_, refl, sym, _∙_, ap}
+use mathlib.Core.Logic.{_≢_}
+use mathlib.Core.Bool.{Bool, true, false, false≢true}
+use Prim.Native.Nat.{ℕ, zero, suc, _+_, _-_, _^_, _≤_, _<_}
+use native.Mathlib.Nat.{zero-add}
+use native.Mathlib.Decide.{ℕ-discrete, decLt}
+use native.Mathlib.Omega.{arith}
+use lib.Bits.{bitAnd}
+use lib.Count.{trailingZeros}
+use lib.Pow.{pow-pos}
+use Rattle.rules.specs.Words.{pick}
+use Rattle.rules.specs.NextHops.{has, set-of}
+use Rattle.rules.proofs.Sets.{member-below, trailing}
+use Rattle.sets.proofs.Bits.{lowest-out, taken-out, others-stay}
+use Rattle.sets.proofs.Members.{nobody}
+
+-- the walk has passed all below p: from p on the rest has the set's members, and below p none
+pub record Passed (set rest p : ℕ) : Type 0 where
+  pub later : (k : ℕ) → p ≤ k → has rest k ≡ has set k
+  pub gone : (k : ℕ) → k < p → has rest k ≡ false
+
+pub setting-out : (set : ℕ) → Passed set set 0
+setting-out set = record { later = λ k h. refl; gone = λ k h. absurd (omega arith) }
+
+-- one turn: the next member k, and the rest without it
+pub record Turn (set rest p : ℕ) (k : ℕ) : Type 0 where
+  pub beyond : p ≤ k
+  pub router : k < 64
+  pub member : has set k ≡ true
+  pub skipped : (j : ℕ) → p ≤ j → j < k → has set j ≡ false
+  pub passed : Passed set (bitAnd rest (rest - 1)) (suc k)
+  pub fewer : bitAnd rest (rest - 1) < rest
+
+module _ (set rest p : ℕ) (w : Passed set rest p) where
+  pub next-member : rest ≢ 0 → rest < 2 ^ 64 → Turn set rest p (trailingZeros 64 rest)
+  next-member s b = record {
+    beyond = beyond;
+    router = member-below rest k b (low .0);
+    member = sym (w .later k beyond) ∙ low .0;
+    skipped = λ j h l. sym (w .later j h) ∙ not-lower j l;
+    passed = record {
+      later = λ j h. others-out j (omega arith) ∙ w .later j (omega (arith, beyond));
+      gone = gone;
+    };
+    fewer = omega (arith, out, pow-pos k);
+  }
+    where
+      k : ℕ
+      k = trailingZeros 64 rest
+
+      low : (has rest k ≡ true) × ((j : ℕ) → has rest j ≡ true → k ≤ j)
+      low = trailing 64 rest (omega arith) b
+
+      out : bitAnd rest (rest - 1) + 2 ^ k ≡ rest
+      out = lowest-out 64 rest (omega arith) b
+
+      less : bitAnd rest (rest - 1) ≡ rest - 2 ^ k
+      less = omega (arith, out)
+
+      others-out : (j : ℕ) → j ≢ k → has (bitAnd rest (rest - 1)) j ≡ has rest j
+      others-out j a = ap (λ n. has n j) less ∙ others-stay k rest j (low .0) a
+
+      not-lower : (j : ℕ) → j < k → has rest j ≡ false
+      not-lower j l = go (has rest j) refl
+        where
+          go : (t : Bool) → has rest j ≡ t → t ≡ false
+          go true e = absurd (omega (arith, low .1 j e))
+          go false e = refl
+
+      beyond : p ≤ k
+      beyond = go (decLt k p)
+        where
+          go : Dec (k < p) → p ≤ k
+          go (yes h) = absurd (false≢true (sym (w .gone k h) ∙ low .0))
+          go (no h) = omega arith
+
+      gone : (j : ℕ) → j < suc k → has (bitAnd rest (rest - 1)) j ≡ false
+      gone j l = go (ℕ-discrete j k)
+        where
+          go : Dec (j ≡ k) → has (bitAnd rest (rest - 1)) j ≡ false
+          go (yes e) = ap (λ n. has (bitAnd rest (rest - 1)) n) e ∙ ap (λ n. has n k) less ∙ taken-out k rest (low .0)
+          go (no a) = others-out j a ∙ not-lower j (omega arith)
+
+  -- at the end no member is left from p on
+  pub at-end : rest ≡ 0 → (k : ℕ) → p ≤ k → has set k ≡ false
+  at-end e k h = sym (w .later k h) ∙ ap (λ n. has n k) e ∙ nobody k
+
+-- a set that is made on the way: routers that are passed over add nothing
+pub passed-over : (q : ℕ → Bool) (p n : ℕ) → p ≤ n → ((j : ℕ) → p ≤ j → j < n → q j ≡ false) → set-of q n ≡ set-of q p
+unfolding set-of
+passed-over q zero zero h f = refl
+passed-over q (suc p) zero h f = absurd (omega arith)
+passed-over q p (suc n) h f = go (ℕ-discrete p (suc n)) (passed-over q p n)
+  where
+    go : Dec (p ≡ suc n) → (p ≤ n → ((j : ℕ) → p ≤ j → j < n → q j ≡ false) → set-of q n ≡ set-of q p) → set-of q (suc n) ≡ set-of q p
+    go (yes e) ih = ap (set-of q) (sym e)
+    go (no a) ih = ap (λ t. pick t (2 ^ n) 0 + set-of q n) (f n (omega arith) (omega arith)) ∙ zero-add (set-of q n) ∙ ih (omega arith) (λ j l m. f j l (omega arith))

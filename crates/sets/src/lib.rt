@@ -1,0 +1,33 @@
+// Sets of routers as 64-bit numbers, bit k for router k.
+ghost use mathlib.Core.Path.{_≡_};
+ghost use Rattle.rules.specs.NextHops.{has, chosen, size};
+
+// The chosen hop of the empty set: no router.
+pub const NO_HOP: u8 = 255;
+
+// Whether router k is a member.
+pub fn has(set: u64, k: u8) -> bool
+    ensures { λ r. ⌜ r ≡ has set k ⌝ }
+{
+    if 64 <= k {
+        return false;
+    }
+    (set >> k) & 1 == 1
+}
+
+// The chosen hop: the lowest-numbered member.
+pub fn chosen(set: u64) -> u8
+    ensures { λ r. ⌜ r ≡ chosen set ⌝ }
+{
+    if set == 0 {
+        return NO_HOP;
+    }
+    u64::trailing_zeros(set) as u8
+}
+
+// The number of members.
+pub fn size(set: u64) -> u8
+    ensures { λ r. ⌜ r ≡ size set ⌝ }
+{
+    u64::count_ones(set) as u8
+}

@@ -1,0 +1,4 @@
+pub mod Webs
+pub mod Laying
+pub mod Accepted
+pub mod Settled

@@ -1,0 +1,13 @@
+-- The promise of this crate allows one answer: two webs that it allows are equal.
+-- Assumes nothing.
+use mathlib.Core.Path.{_≡_}
+use mathlib.Core.List.{List}
+use Prim.Native.Nat.{ℕ}
+use Rattle.rules.specs.Links.{weight-in}
+use Rattle.rules.specs.Promises.{Settles}
+use Rattle.rules.proofs.Uniqueness.{value-settled}
+use Rattle.tables.specs.declared.Outline.{Outline}
+use Rattle.webs.specs.Webs.{web-by, laid}
+
+pub web-of-settled : (bytes : List ℕ) (t : Outline) → Settles (λ r. r ≡ web-by (weight-in (laid bytes (t .start) (t .links))))
+web-of-settled bytes t = value-settled (web-by (weight-in (laid bytes (t .start) (t .links))))

@@ -1,0 +1,61 @@
+-- `webs::web_of` meets its contract: at each turn the arrays are the web of the links before.
+-- Assumes nothing.
+use Prim.Native.Nat.{_-_, _≤_}
+use native.Mathlib.Omega.{arith}
+use borrow.Author.Needs.{needs}
+use Rattle.webs.proofs.Laying.{Laid, none-laid, more-laid, all-laid}
+use Rattle.webs.proofs.web_of.Statement.{statement}
+use Rattle.webs.proofs.web_of.Tie as tie
+
+abbrev Inv-loop : tie.InvT-loop
+Inv-loop table links near₀ weights₀ i₀ near weights i = (i ≤ links .links) × Laid table (links .start) i near weights
+
+abbrev μ-loop : tie.MeasureT-loop
+μ-loop table links near₀ weights₀ i₀ near weights i = links .links - i
+
+no-sets-requires : tie.Need-no-sets-requires Inv-loop μ-loop
+no-sets-requires c κs = search needs
+
+no-weights-requires : tie.Need-no-weights-requires Inv-loop μ-loop
+no-weights-requires c κs = search needs
+
+loop-holds : tie.Need-loop-holds Inv-loop μ-loop
+loop-holds c = (omega arith, none-laid _ _ _ _ (c .before .no-sets .ensures) (c .no-weights .ensures))
+
+link-by-number-requires : tie.Need-link-by-number-requires Inv-loop μ-loop
+link-by-number-requires c κs = search needs
+
+lay-told-requires : tie.Need-lay-told-requires Inv-loop μ-loop
+lay-told-requires c κs = search needs
+
+add-i : tie.Need-add-i Inv-loop μ-loop
+add-i c = search needs
+
+loop-less : tie.Need-loop-less Inv-loop μ-loop
+loop-less c = omega arith
+
+loop-again : tie.Need-loop-again Inv-loop μ-loop
+loop-again c =
+    let m = c .before .before .before in (
+      omega arith,
+      more-laid _ _ _ _ _ _ _ _ (m .before .before .before .loop .inv .1) (m .link-by-number .ensures) (c .lay-told .ensures .0) (c .lay-told .ensures .1),
+    )
+
+returns : tie.Need-returns Inv-loop μ-loop
+returns c = all-laid _ _ _ _ _ _ (c .before .before .loop .inv .1) (omega arith)
+
+pub web-of-spec : {M : Type 1} → statement M
+web-of-spec =
+    tie.close
+    (tie.spec
+    Inv-loop
+    μ-loop
+    no-sets-requires
+    no-weights-requires
+    loop-holds
+    link-by-number-requires
+    lay-told-requires
+    add-i
+    loop-less
+    loop-again
+    returns)
