@@ -1,0 +1,100 @@
+-- What the fill answers and what it leaves in the outputs, case by case.
+-- Assumes nothing.
+use mathlib.Core.Path.{_≡_, sym, _∙_, ap}
+use mathlib.Core.Logic.{_≢_}
+use mathlib.Core.Bool.{Bool, true, false, _||_, or-true}
+use mathlib.Core.List.{List, [], _∷_, map}
+use Prim.Native.Nat.{ℕ, _≤_, _<_}
+use native.Mathlib.Omega.{arith}
+use lib.Dec.{ltb}
+use lib.ListN.{length}
+use borrow.Author.Tests.{lt-ltb, le-ltb, le-leb, lt-leb}
+use Rattle.rules.specs.Words.{_when_, below}
+use Rattle.rules.specs.Table.{read, number-of, place-of, says}
+use Rattle.rules.specs.Costs.{cost}
+use Rattle.rules.specs.NextHops.{next-hops}
+use Rattle.rules.specs.Questions.{Answer, answered, refused-with, refusal, answer, afterwards, bad-router, fill-answer, costs-after, sets-after}
+use Rattle.rules.specs.Demand1.{IsAccepted}
+use Rattle.rules.proofs.Acceptance.{obeys}
+use Rattle.rules.proofs.Lines.{line-applies, line-passes, no-lines-left, table-bad, table-good}
+use Rattle.rules.proofs.Refusals.{writes, stays}
+use Rattle.tables.specs.Readings.{outline-of}
+use Rattle.tables.specs.declared.Outline.{Outline}
+use Rattle.routes.specs.declared.Filling.the-variants.{Filled, Refused}
+use Rattle.routes.specs.Fillings.{filling-numbers, Fills, first-of}
+use Rattle.routes.proofs.Handed.{first-values}
+
+module _ (table : List ℕ) (d : ℕ) (costs sets : List ℕ) where
+  -- a refusal leaves what was lent
+  refused : (number place : ℕ) → number ≢ 0 → fill-answer table d costs sets ≡ refused-with 0 number 0 place
+      → Fills table d costs sets (Refused number place) costs sets
+  unfolding filling-numbers costs-after sets-after
+  refused number place n e = (sym e, n, sym (stays (fill-answer table d costs sets) _ costs m), sym (stays (fill-answer table d costs sets) _ sets m))
+    where
+      m : fill-answer table d costs sets .refusal .number ≢ 0
+      m z = n (sym (ap (λ (a : Answer ℕ). a .refusal .number) e) ∙ z)
+
+  pub table-refused : (number place : ℕ) → (number-of (read table) ≡ number) × (place-of (read table) ≡ place) × (number ≢ 0)
+      → Fills table d costs sets (Refused number place) costs sets
+  unfolding fill-answer
+  table-refused number place (e, p, n) = refused number place n (table-bad _ _ 0 table _ number place e p n)
+
+  module _ (a : IsAccepted table) (t : Outline) (q : t ≡ outline-of table) where
+    abbrev routers : ℕ
+    routers = says table .routers
+
+    same : t .routers ≡ routers
+    same = ap (λ (o : Outline). o .routers) q
+
+    -- an output is too short
+    abbrev short : Bool
+    short = ltb (length costs) routers || ltb (length sets) routers
+
+    -- only 9 and 10 are left to be asked
+    good : fill-answer table d costs sets ≡ answer (refusal 9 when bad-router (says table) d ∷ refusal 10 when short ∷ []) 0 routers
+    unfolding fill-answer
+    good = table-good _ _ 0 table _ a
+
+    pub router-refused : t .routers ≤ d → Fills table d costs sets (Refused 9 0) costs sets
+    router-refused h =
+        refused 9 0 (omega arith)
+        (good ∙ line-applies _ _ (refusal 9 when bad-router (says table) d) _ (le-leb routers d (omega (arith, same))) (omega arith))
+
+    module _ (b : d < t .routers) where
+      -- only 10 is left to be asked
+      inside : fill-answer table d costs sets ≡ answer (refusal 10 when short ∷ []) 0 routers
+      inside = good ∙ line-passes _ _ (refusal 9 when bad-router (says table) d) _ (lt-leb routers d (omega (arith, same)))
+
+      refused-10 : short ≡ true → Fills table d costs sets (Refused 10 0) costs sets
+      refused-10 s = refused 10 0 (omega arith) (inside ∙ line-applies _ _ (refusal 10 when short) [] s (omega arith))
+
+      pub costs-short : length costs < t .routers → Fills table d costs sets (Refused 10 0) costs sets
+      costs-short h = refused-10 (rw (lt-ltb (length costs) routers (omega (arith, same))))
+
+      pub sets-short : length sets < t .routers → Fills table d costs sets (Refused 10 0) costs sets
+      sets-short h = refused-10 (rw (lt-ltb (length sets) routers (omega (arith, same))) (or-true (ltb (length costs) routers)))
+
+      pub filled : t .routers ≤ length costs → t .routers ≤ length sets → (costs′ sets′ : List ℕ)
+          → costs′ ≡ first-of (t .routers) (map (λ i. cost (says table) i d) (below 64)) costs
+          → sets′ ≡ first-of (t .routers) (map (λ i. next-hops (says table) i d) (below 64)) sets
+          → Fills table d costs sets (Filled (t .routers)) costs′ sets′
+      unfolding filling-numbers costs-after sets-after
+      filled h l costs′ sets′ x y = (
+        ap answered same ∙ sym e,
+        tt,
+        x ∙ holds (λ i. cost (says table) i d) costs,
+        y ∙ holds (λ i. next-hops (says table) i d) sets,
+      )
+        where
+          enough : short ≡ false
+          enough = rw (le-ltb (length costs) routers (omega (arith, same))) (le-ltb (length sets) routers (omega (arith, same)))
+
+          e : fill-answer table d costs sets ≡ answered routers
+          e = inside ∙ line-passes _ _ (refusal 10 when short) [] enough ∙ no-lines-left _ _
+
+          holds : (f : ℕ → ℕ) (lent : List ℕ)
+              → first-of (t .routers) (map f (below 64)) lent ≡ afterwards (fill-answer table d costs sets) (map f (below routers)) lent
+          holds f lent =
+              ap (λ (n : ℕ). first-of n (map f (below 64)) lent) same
+              ∙ first-values f 64 lent routers (obeys table a .few-routers)
+              ∙ sym (writes (fill-answer table d costs sets) (map f (below routers)) lent (ap (λ (a : Answer ℕ). a .refusal .number) e))

@@ -1,0 +1,119 @@
+-- The next-hop set of a router, made on one walk over the set of those that it is linked to.
+-- Assumes nothing.
+use mathlib.Core.Path.{_≡_, refl, sym, _∙_}
+use mathlib.Core.Logic.{_≢_}
+use mathlib.Core.Bool.{Bool, false, _&&_}
+use mathlib.Core.List.{List}
+use Prim.Native.Nat.{ℕ, suc, _+_, _-_, _*_, _%_, _^_, _≤_, _<_}
+use native.Mathlib.Nat.{lt-of-lt-of-le, add-comm}
+use native.Mathlib.Omega.{arith}
+use lib.Bits.{bitAnd}
+use lib.Count.{trailingZeros}
+use lib.Dec.{eqb, ltb}
+use lib.ListN.{length, getD, List·getD-eq-default}
+use lib.Pow.{pow-mono}
+use borrow.Author.Tests.{lt-ltb, eq-eqb, ne-eqb}
+use Rattle.rules.specs.Words.{pick}
+use Rattle.rules.specs.Costs.{no-cost}
+use Rattle.rules.specs.NextHops.{has, set-of}
+use Rattle.rules.proofs.Sets.{has-below, set-below, set-none}
+use Rattle.sets.proofs.Walk.{Passed, Turn, setting-out, next-member, at-end, passed-over}
+use Rattle.sets.proofs.Members.{one-bit}
+use Rattle.webs.specs.Webs.{weight-over, IsWeb}
+use Rattle.search.specs.Search.{hops-over}
+use Rattle.search.specs.Steps.{AreCosts, cost-at}
+use Rattle.search.proofs.Keys.{as-read}
+
+-- ---- the bit of one neighbour
+
+module _ (k weight there here : ℕ) where
+  -- what one neighbour adds to the set
+  abbrev pub bit : ℕ
+  bit = pick (ltb 0 weight && eqb (weight + there) here) (2 ^ k) 0
+
+  pub bit-unlinked : weight ≡ 0 → 0 ≡ bit
+  bit-unlinked e = rw e
+
+  pub bit-leads : k < 64 → weight ≢ 0 → weight + there ≡ here → (1 * 2 ^ k) % 18446744073709551616 ≡ bit
+  bit-leads h w e = rw (lt-ltb 0 weight (omega arith), eq-eqb (weight + there) here e) (one-bit k h)
+
+  pub bit-astray : weight ≢ 0 → weight + there ≢ here → 0 ≡ bit
+  bit-astray w e = rw (lt-ltb 0 weight (omega arith), ne-eqb (weight + there) here e)
+
+-- ---- the walk
+
+module _ (near weights costs : List ℕ) (i : ℕ) where
+  -- a link leads from i on to k
+  abbrev hop : ℕ → Bool
+  hop k = ltb 0 (weight-over near weights i k) && eqb (weight-over near weights i k + getD costs k no-cost) (getD costs i no-cost)
+
+  -- no link leads to a router whose bit is not set
+  unlinked : (k : ℕ) → has (getD near i 0) k ≡ false → hop k ≡ false
+  unfolding weight-over
+  unlinked k e = rw e
+
+  -- behind the last router there is no next hop
+  pub no-hops : length near ≡ 64 → 64 ≤ i → 0 ≡ hops-over (weight-over near weights) (cost-at costs) i
+  unfolding hops-over
+  no-hops h l = sym (set-none hop (λ k. unlinked k (rw none (has-below 0 0 k (omega arith) (omega arith)))) 64)
+    where
+      none : getD near i 0 ≡ 0
+      none = List·getD-eq-default near 0 (omega (arith, h))
+
+  -- all below p are passed, and the next hops among them are in the set
+  pub record Walked (set rest : ℕ) : Type 0 where
+    pub p : ℕ
+    pub routers : p ≤ 64
+    pub small : rest < 2 ^ 64
+    pub passed : Passed (getD near i 0) rest p
+    pub made : set ≡ set-of hop p
+
+  pub starts : IsWeb near weights → Walked 0 (getD near i 0)
+  unfolding set-of
+  starts h = record { p = 0; routers = omega arith; small = h .near-fits i; passed = setting-out (getD near i 0); made = refl }
+
+  pub ends : (set rest : ℕ) → Walked set rest → rest ≡ 0 → set ≡ hops-over (weight-over near weights) (cost-at costs) i
+  unfolding hops-over
+  ends set rest w e =
+      w .made
+      ∙ sym (passed-over hop (w .p) 64 (w .routers) (λ k l b. unlinked k (at-end (getD near i 0) rest (w .p) (w .passed) e k l)))
+
+  -- one turn: the next member k, and its bit
+  pub record Onward (set rest bit : ℕ) : Type 0 where
+    pub walked : Walked (set + bit) (bitAnd rest (rest - 1))
+    pub fits : set + bit < 2 ^ 64
+    pub fewer : bitAnd rest (rest - 1) < rest
+
+  module _ (set rest : ℕ) (w : Walked set rest) (s : rest ≢ 0) where
+    turn : Turn (getD near i 0) rest (w .p) (trailingZeros 64 rest)
+    turn = next-member (getD near i 0) rest (w .p) (w .passed) s (w .small)
+
+    pub router : trailingZeros 64 rest < 64
+    router = turn .router
+
+    pub onward : AreCosts costs → i < 64 → (r : ℕ)
+        → r ≡ bit (trailingZeros 64 rest) (getD weights (64 * i + trailingZeros 64 rest) 0) (getD costs (trailingZeros 64 rest) 0) (getD costs i 0)
+        → Onward set rest r
+    unfolding weight-over set-of
+    onward a h r e = record {
+      walked = record {
+        p = suc k;
+        routers = omega (arith, router);
+        small = omega (arith, turn .fewer, w .small);
+        passed = turn .passed;
+        made = made;
+      };
+      fits = omega (arith, made, lt-of-lt-of-le (set-below hop (suc k)) (pow-mono {i = suc k} {j = 64} (omega (arith, router))));
+      fewer = turn .fewer;
+    }
+      where
+        k : ℕ
+        k = trailingZeros 64 rest
+
+        same : r ≡ pick (hop k) (2 ^ k) 0
+        same = rw (turn .member, ← as-read costs a k router, ← as-read costs a i h) e
+
+        made : set + r ≡ set-of hop (suc k)
+        made =
+            rw (w .made, same, sym (passed-over hop (w .p) k (turn .beyond) (λ j l m. unlinked j (turn .skipped j l m))))
+            (add-comm (set-of hop k) (pick (hop k) (2 ^ k) 0))

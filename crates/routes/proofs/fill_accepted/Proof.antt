@@ -1,0 +1,55 @@
+-- `routes::fill_accepted` meets its contract: the table's own costs and sets, found over its web.
+-- Assumes nothing.
+use native.Mathlib.Omega.{arith}
+use borrow.Author.Needs.{needs}
+use Rattle.routes.proofs.Found.{few, own-weights, found-costs, found-sets}
+use Rattle.routes.proofs.Handed.{first-same}
+use Rattle.routes.proofs.fill_accepted.Statement.{statement}
+use Rattle.routes.proofs.fill_accepted.Tie as tie
+
+web-of-requires : tie.Need-web-of-requires
+web-of-requires c κs = search needs
+
+costs-from-requires : tie.Need-costs-from-requires
+costs-from-requires c κs = search needs
+
+sets-by-requires : tie.Need-sets-by-requires
+sets-by-requires c κs = search needs
+
+cast-hand-over : tie.Need-cast-hand-over
+cast-hand-over c = search needs
+
+hand-over-requires : tie.Need-hand-over-requires
+hand-over-requires c κs =
+    let p = c .before .before .before .before .before .before .before .before .before .pre in
+    (few _ (p .0) _ (p .1), p .3, p .4)
+
+same-length : tie.Need-same-length
+same-length c = search needs
+
+same-length-2 : tie.Need-same-length-2
+same-length-2 c = search needs
+
+returns : tie.Need-returns
+returns c =
+    let m = c .before .before .before .before .before .before .before .before in
+    let p = m .before .before .before .before .before .before .pre in
+    let h = c .before .before .before .before .hand-over .ensures in
+    let w = own-weights _ (p .0) _ (p .1) _ (m .before .before .web-of .ensures) in (
+      first-same _ _ _ _ (h .0) _ (found-costs _ (p .0) _ w _ _ (m .before .costs-from .ensures)),
+      first-same _ _ _ _ (h .1) _
+          (found-sets _ (p .0) _ w _ _ (m .before .costs-from .ensures) (omega (arith, p .2, few _ (p .0) _ (p .1))) _ (m .sets-by .ensures)),
+    )
+
+pub fill-accepted-spec : {M : Type 1} → statement M
+fill-accepted-spec =
+    tie.close
+    (tie.spec
+    web-of-requires
+    costs-from-requires
+    sets-by-requires
+    cast-hand-over
+    hand-over-requires
+    same-length
+    same-length-2
+    returns)

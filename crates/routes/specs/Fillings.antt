@@ -1,0 +1,30 @@
+-- What the fill answers, in document 01's numbers, and what it writes.
+use mathlib.Core.Path.{_≡_}
+use mathlib.Core.List.{List, _++_}
+use Prim.Native.Nat.{ℕ}
+use lib.ListN.{take, drop}
+use Rattle.rules.specs.Questions.{Answer, answered, refused-with, IsNumber, fill-answer, costs-after, sets-after}
+use Rattle.routes.specs.declared.Filling.{Filling}
+use Rattle.routes.specs.declared.Filling.the-variants.{Filled, Refused}
+
+-- the numbers of each case
+unfoldable pub filling-numbers : Filling → Answer ℕ
+filling-numbers (Filled routers) = answered routers
+filling-numbers (Refused number place) = refused-with 0 number 0 place
+
+-- a refusal has a number
+abbrev pub Numbered : Filling → Type 0
+Numbered (Filled routers) = Unit {0}
+Numbered (Refused number place) = IsNumber number
+
+-- r answers the fill, and the two outputs hold afterwards what they are to hold
+abbrev pub Fills : List ℕ → ℕ → List ℕ → List ℕ → Filling → List ℕ → List ℕ → Type 0
+Fills table d costs sets r costs′ sets′ =
+    (filling-numbers r ≡ fill-answer table d costs sets)
+    × Numbered r
+    × (costs′ ≡ costs-after table d costs sets)
+    × (sets′ ≡ sets-after table d costs sets)
+
+-- the first n numbers of an array, and behind them what was lent
+unfoldable pub first-of : ℕ → List ℕ → List ℕ → List ℕ
+first-of n found lent = take n found ++ drop n lent

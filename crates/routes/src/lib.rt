@@ -1,0 +1,148 @@
+// Next-hop sets over a web, and the fill: costs and sets of one destination.
+ghost use mathlib.Core.Path.{_≡_};
+ghost use mathlib.Core.Bool.{_&&_};
+ghost use mathlib.Core.List.{map};
+ghost use Prim.Native.Nat.{_+_, _^_, _<_, _≤_};
+ghost use lib.ListN.{length, replicate};
+ghost use Rattle.rules.specs.Words.{_=?_, _<?_, pick, below};
+ghost use Rattle.rules.specs.Table.{says};
+ghost use Rattle.rules.specs.Costs.{cost};
+ghost use Rattle.rules.specs.NextHops.{next-hops};
+ghost use Rattle.rules.specs.Demand1.{IsAccepted};
+ghost use Rattle.tables.specs.Readings.{outline-of};
+ghost use Rattle.webs.specs.Webs.{weight-over, web-weight, IsWeb};
+ghost use Rattle.search.specs.Search.{hops-over};
+ghost use Rattle.search.specs.Steps.{AreCosts, cost-at};
+ghost use Rattle.routes.specs.Fillings.{Fills, first-of};
+use search::costs_from;
+use tables::Outline;
+use tables::Reading;
+use tables::read;
+use webs::Web;
+use webs::web_of;
+
+// The fill's answer: N, or a number and a place.
+pub enum Filling {
+    Filled(u8),
+    Refused { number: u8, place: usize },
+}
+
+// Router k's bit, if a link of this weight leads from a router of the cost `here` on to k.
+fn leads(k: usize, weight: u16, there: u32, here: u32) -> u64
+    requires { ⌜ k < 64 ⌝ }
+    ensures { λ r. ⌜ r ≡ pick (0 <? weight && weight + there =? here) (2 ^ k) 0 ⌝ }
+{
+    if weight == 0 {
+        return 0;
+    }
+    if (weight as u64) + (there as u64) == (here as u64) {
+        return 1u64 << k;
+    }
+    0
+}
+
+// The next-hop set of one router: one walk over its links.
+fn hops_at<'a>(near: &'a [u64; 64], weights: &'a [u16; 4096], costs: &'a [u32; 64], i: usize) -> u64
+    requires { ⌜ IsWeb (now near) (now weights) × AreCosts (now costs) × (i < 64) ⌝ }
+    ensures { λ r. ⌜ r ≡ hops-over (weight-over (now (near .entry)) (now (weights .entry))) (cost-at (now (costs .entry))) i ⌝ }
+{
+    let here = costs[i];
+    let mut set = 0;
+    let mut rest = near[i];
+    while rest != 0 {
+        let k = u64::trailing_zeros(rest) as usize;
+        set += leads(k, weights[64 * i + k], costs[k], here);
+        rest = rest & (rest - 1);
+    }
+    set
+}
+
+// The next-hop set of one router, by the costs to a destination.
+pub fn next_hops(web: Web, costs: [u32; 64], router: u8) -> u64
+    ensures { λ r. ⌜ r ≡ hops-over (web-weight web) (cost-at costs) router ⌝ }
+{
+    if 64 <= router {
+        return 0;
+    }
+    hops_at(&web.near, &web.weights, &costs, router as usize)
+}
+
+// 64 empty sets.
+fn no_sets() -> [u64; 64]
+    ensures { λ r. ⌜ r ≡ replicate 64 0 ⌝ }
+{
+    [0; 64]
+}
+
+// The next-hop sets of all routers, by the costs to a destination: the set of each router in turn.
+pub fn sets_by(web: Web, costs: [u32; 64]) -> [u64; 64]
+    ensures { λ r. ⌜ r ≡ map (hops-over (web-weight web) (cost-at costs)) (below 64) ⌝ }
+{
+    let mut sets = no_sets();
+    let mut i = 0;
+    while i < 64 {
+        sets[i] = hops_at(&web.near, &web.weights, &costs, i);
+        i += 1;
+    }
+    sets
+}
+
+// The first n costs and sets, into the lent outputs.
+fn hand_over(n: usize, found: [u32; 64], hops: [u64; 64], costs: &mut [u32], sets: &mut [u64])
+    requires { ⌜ (n ≤ 64) × (n ≤ length (now costs)) × (n ≤ length (now sets)) ⌝ }
+    ensures { λ _. ⌜ (now (costs .exit) ≡ first-of n found (now (costs .entry))) × (now (sets .exit) ≡ first-of n hops (now (sets .entry))) ⌝ }
+{
+    let mut i = 0;
+    while i < n {
+        costs[i] = found[i];
+        sets[i] = hops[i];
+        i += 1;
+    }
+}
+
+// The fill of an accepted table whose outputs are long enough.
+fn fill_accepted(table: &[u8], t: Outline, destination: u8, costs: &mut [u32], sets: &mut [u64])
+    requires { ⌜ IsAccepted (now table) × (t ≡ outline-of (now table)) × (destination < t .routers)
+        × (t .routers ≤ length (now costs)) × (t .routers ≤ length (now sets)) ⌝ }
+    ensures { λ _. ⌜
+        (now (costs .exit) ≡ first-of (t .routers) (map (λ i. cost (says (now (table .entry))) i destination) (below 64)) (now (costs .entry)))
+        × (now (sets .exit) ≡ first-of (t .routers) (map (λ i. next-hops (says (now (table .entry))) i destination) (below 64)) (now (sets .entry)))
+        ⌝ }
+{
+    let web = web_of(table, t);
+    let found = costs_from(web, destination);
+    let hops = sets_by(web, found);
+    hand_over(t.routers as usize, found, hops, costs, sets);
+}
+
+// The fill: N costs and N sets of a destination.
+pub fn fill(table: &[u8], destination: u64, costs: &mut [u32], sets: &mut [u64]) -> Filling
+    ensures { λ r. ⌜ Fills (now (table .entry)) destination (now (costs .entry)) (now (sets .entry)) r (now (costs .exit)) (now (sets .exit)) ⌝ }
+{
+    let reading = read(table);
+    match reading {
+        Reading::Accepted(t) => {
+            if (t.routers as u64) <= destination {
+                return Filling::Refused {
+                    number: 9,
+                    place: 0,
+                };
+            }
+            if costs.len() < (t.routers as usize) {
+                return Filling::Refused {
+                    number: 10,
+                    place: 0,
+                };
+            }
+            if sets.len() < (t.routers as usize) {
+                return Filling::Refused {
+                    number: 10,
+                    place: 0,
+                };
+            }
+            fill_accepted(table, t, destination as u8, costs, sets);
+            Filling::Filled(t.routers)
+        }
+        Reading::Refused { number, place } => Filling::Refused { number, place },
+    }
+}
