@@ -16,10 +16,11 @@ use borrow.Author.Tests.{lt-ltb, eq-eqb, ne-eqb}
 use Rattle.rules.specs.Words.{pick}
 use Rattle.rules.specs.Costs.{no-cost}
 use Rattle.rules.specs.NextHops.{has, set-of}
-use Rattle.rules.proofs.Sets.{has-below, set-below, set-none}
+use Rattle.rules.proofs.Sets.{set-below, set-none}
 use Rattle.sets.proofs.Walk.{Passed, Turn, setting-out, next-member, at-end, passed-over}
-use Rattle.sets.proofs.Members.{one-bit}
+use Rattle.sets.proofs.Members.{nobody, one-bit}
 use Rattle.webs.specs.Webs.{weight-over, IsWeb}
+use Rattle.webs.proofs.Webs.{weight-there, weight-none}
 use Rattle.search.specs.Search.{hops-over}
 use Rattle.search.specs.Steps.{AreCosts, cost-at}
 use Rattle.search.proofs.Keys.{as-read}
@@ -49,13 +50,12 @@ module _ (near weights costs : List ℕ) (i : ℕ) where
 
   -- no link leads to a router whose bit is not set
   unlinked : (k : ℕ) → has (getD near i 0) k ≡ false → hop k ≡ false
-  unfolding weight-over
-  unlinked k e = rw e
+  unlinked k e = rw (weight-none near weights i k e)
 
   -- behind the last router there is no next hop
   pub no-hops : length near ≡ 64 → 64 ≤ i → 0 ≡ hops-over (weight-over near weights) (cost-at costs) i
   unfolding hops-over
-  no-hops h l = sym (set-none hop (λ k. unlinked k (rw none (has-below 0 0 k (omega arith) (omega arith)))) 64)
+  no-hops h l = sym (set-none hop (λ k. unlinked k (rw none (nobody k))) 64)
     where
       none : getD near i 0 ≡ 0
       none = List·getD-eq-default near 0 (omega (arith, h))
@@ -64,13 +64,12 @@ module _ (near weights costs : List ℕ) (i : ℕ) where
   pub record Walked (set rest : ℕ) : Type 0 where
     pub p : ℕ
     pub routers : p ≤ 64
-    pub small : rest < 2 ^ 64
     pub passed : Passed (getD near i 0) rest p
     pub made : set ≡ set-of hop p
 
   pub starts : IsWeb near weights → Walked 0 (getD near i 0)
   unfolding set-of
-  starts h = record { p = 0; routers = omega arith; small = h .near-fits i; passed = setting-out (getD near i 0); made = refl }
+  starts h = record { p = 0; routers = omega arith; passed = setting-out (getD near i 0) (h .near-fits i); made = refl }
 
   pub ends : (set rest : ℕ) → Walked set rest → rest ≡ 0 → set ≡ hops-over (weight-over near weights) (cost-at costs) i
   unfolding hops-over
@@ -86,7 +85,7 @@ module _ (near weights costs : List ℕ) (i : ℕ) where
 
   module _ (set rest : ℕ) (w : Walked set rest) (s : rest ≢ 0) where
     turn : Turn (getD near i 0) rest (w .p) (trailingZeros 64 rest)
-    turn = next-member (getD near i 0) rest (w .p) (w .passed) s (w .small)
+    turn = next-member (getD near i 0) rest (w .p) (w .passed) s
 
     pub router : trailingZeros 64 rest < 64
     router = turn .router
@@ -94,12 +93,11 @@ module _ (near weights costs : List ℕ) (i : ℕ) where
     pub onward : AreCosts costs → i < 64 → (r : ℕ)
         → r ≡ bit (trailingZeros 64 rest) (getD weights (64 * i + trailingZeros 64 rest) 0) (getD costs (trailingZeros 64 rest) 0) (getD costs i 0)
         → Onward set rest r
-    unfolding weight-over set-of
+    unfolding set-of
     onward a h r e = record {
       walked = record {
         p = suc k;
         routers = omega (arith, router);
-        small = omega (arith, turn .fewer, w .small);
         passed = turn .passed;
         made = made;
       };
@@ -111,7 +109,7 @@ module _ (near weights costs : List ℕ) (i : ℕ) where
         k = trailingZeros 64 rest
 
         same : r ≡ pick (hop k) (2 ^ k) 0
-        same = rw (turn .member, ← as-read costs a k router, ← as-read costs a i h) e
+        same = rw (weight-there near weights i k (turn .member), ← as-read costs a k router, ← as-read costs a i h) e
 
         made : set + r ≡ set-of hop (suc k)
         made =

@@ -3,7 +3,7 @@ ghost use mathlib.Core.Path.{_≡_};
 ghost use mathlib.Core.Bool.{_&&_};
 ghost use mathlib.Core.List.{map};
 ghost use Prim.Native.Nat.{_+_, _^_, _<_, _≤_};
-ghost use lib.ListN.{length, replicate};
+ghost use lib.ListN.{length};
 ghost use Rattle.rules.specs.Words.{_=?_, _<?_, pick, below};
 ghost use Rattle.rules.specs.Table.{says};
 ghost use Rattle.rules.specs.Costs.{cost};
@@ -15,6 +15,7 @@ ghost use Rattle.search.specs.Search.{hops-over};
 ghost use Rattle.search.specs.Steps.{AreCosts, cost-at};
 ghost use Rattle.routes.specs.Fillings.{Fills, first-of};
 use search::costs_from;
+use sets::no_sets;
 use tables::Outline;
 use tables::Reading;
 use tables::read;
@@ -65,13 +66,6 @@ pub fn next_hops(web: Web, costs: [u32; 64], router: u8) -> u64
         return 0;
     }
     hops_at(&web.near, &web.weights, &costs, router as usize)
-}
-
-// 64 empty sets.
-fn no_sets() -> [u64; 64]
-    ensures { λ r. ⌜ r ≡ replicate 64 0 ⌝ }
-{
-    [0; 64]
 }
 
 // The next-hop sets of all routers, by the costs to a destination: the set of each router in turn.

@@ -3,25 +3,26 @@
 use mathlib.Core.Path.{_≡_, refl, sym, _∙_, ap}
 use mathlib.Core.Logic.{_≢_}
 use mathlib.Core.Bool.{Bool, true, false, _&&_}
-use mathlib.Core.List.{List, map}
+use mathlib.Core.List.{List}
 use Prim.Native.Nat.{ℕ, suc, _+_, _-_, _*_, _^_, _≤_, _<_}
 use native.Mathlib.Nat.{lt-of-lt-of-le}
-use native.Mathlib.Decide.{ℕ-discrete, decLt}
+use native.Mathlib.Decide.{ℕ-discrete}
 use native.Mathlib.Omega.{arith}
 use lib.Bits.{bitAnd}
 use lib.Count.{trailingZeros}
 use lib.Dec.{ltb}
 use lib.ListN.{getD, set, length-set}
 use lib.Pow.{pow-mono}
-use lib.Seq.{ext-getD, getD-set-same, getD-set-other}
+use lib.Seq.{getD-set-same, getD-set-other}
 use borrow.Author.Tests.{lt-ltb, le-ltb, ltb-true}
-use Rattle.rules.specs.Words.{pick, below}
+use Rattle.rules.specs.Words.{pick}
 use Rattle.rules.specs.Costs.{no-cost}
 use Rattle.rules.specs.NextHops.{has, set-of}
-use Rattle.rules.proofs.Basics.{both, both-pass, pick-t, pick-f, value-at, length-values}
+use Rattle.rules.proofs.Basics.{both, both-pass, pick-t, pick-f}
 use Rattle.rules.proofs.Sets.{set-below}
-use Rattle.sets.proofs.Walk.{Passed, Turn, setting-out, next-member, at-end, passed-over}
+use Rattle.sets.proofs.Walk.{Passed, Turn, setting-out, next-member, at-end, passed-over, Changed, none-changed, one-changed, all-changed}
 use Rattle.webs.specs.Webs.{weight-over, IsWeb}
+use Rattle.webs.proofs.Webs.{weight-there, weight-none}
 use Rattle.search.specs.Steps.{cost-at, AreCosts, cheaper, falls, lowered, eased, fallen}
 use Rattle.search.proofs.Keys.{as-read}
 
@@ -64,45 +65,36 @@ module _ (costs : List ℕ) (a : AreCosts costs) (k v : ℕ) (h : k < 64) where
 -- The walk has passed all routers below p: their costs are those over router m's links, and `fell` is the set of those among them whose cost fell.
 pub record Eased (near weights : List ℕ) (m : ℕ) (old costs : List ℕ) (fell rest p : ℕ) : Type 0 where
   pub passed : Passed (getD near m 0) rest p
-  pub fits : rest < 2 ^ 64
   pub router : p ≤ 64
   pub from : m < 64
   pub were : AreCosts old
   pub are : AreCosts costs
-  pub done : (j : ℕ) → j < p → cost-at costs j ≡ lowered (weight-over near weights) old m j
-  pub left : (j : ℕ) → p ≤ j → cost-at costs j ≡ cost-at old j
+  pub changed : Changed no-cost (lowered (weight-over near weights) old m) old costs p
   pub fell-so-far : fell ≡ set-of (falls (weight-over near weights) old m) p
 
 module _ (near weights : List ℕ) (m : ℕ) (old : List ℕ) where
   abbrev w : ℕ → ℕ → ℕ
   w = weight-over near weights
 
-  -- a router whose bit is not set is not linked
+  -- no cost falls where there is no link
   unlinked : (j : ℕ) → has (getD near m 0) j ≡ false → falls w old m j ≡ false
-  unfolding weight-over
-  unlinked j e = no-link _ _ _ (pick-f _ _ _ e)
-
-  linked-weight : (j : ℕ) → has (getD near m 0) j ≡ true → w m j ≡ getD weights (64 * m + j) 0
-  unfolding weight-over
-  linked-weight j e = pick-t _ _ _ e
+  unlinked j e = no-link _ _ _ (weight-none near weights m j e)
 
   pub none-eased : IsWeb near weights → m < 64 → AreCosts old → Eased near weights m old old 0 (getD near m 0) 0
   unfolding set-of
   none-eased b h a = record {
-    passed = setting-out (getD near m 0);
-    fits = b .near-fits m;
+    passed = setting-out (getD near m 0) (b .near-fits m);
     router = omega arith;
     from = h;
     were = a;
     are = a;
-    done = λ j l. absurd (omega arith);
-    left = λ j l. refl;
+    changed = none-changed no-cost (lowered w old m) old;
     fell-so-far = refl;
   }
 
   module _ (costs : List ℕ) (fell rest p : ℕ) (e : Eased near weights m old costs fell rest p) where
     pub next-linked : rest ≢ 0 → Turn (getD near m 0) rest p (trailingZeros 64 rest)
-    next-linked s = next-member (getD near m 0) rest p (e .passed) s (e .fits)
+    next-linked s = next-member (getD near m 0) rest p (e .passed) s
 
     -- a set of routers fits in 64 bits
     pub fell-fits : fell < 2 ^ 64
@@ -121,10 +113,10 @@ module _ (near weights : List ℕ) (m : ℕ) (old : List ℕ) where
         v = getD weights (64 * m + k) 0 + getD old m 0
 
         weight-now : w m k ≡ getD weights (64 * m + k) 0
-        weight-now = linked-weight k (t .member)
+        weight-now = weight-there near weights m k (t .member)
 
         cost-now : getD costs k 0 ≡ cost-at old k
-        cost-now = as-read costs (e .are) k (t .router) ∙ e .left k (t .beyond)
+        cost-now = as-read costs (e .are) k (t .router) ∙ e .changed .yet k (t .beyond)
 
         test : cheaper (getD weights (64 * m + k) 0) (getD old m 0) (getD costs k 0) ≡ falls w old m k
         test = rw (weight-now, cost-now, as-read old (e .were) m (e .from))
@@ -135,62 +127,38 @@ module _ (near weights : List ℕ) (m : ℕ) (old : List ℕ) where
         skip : (j : ℕ) → p ≤ j → j < k → falls w old m j ≡ false
         skip j l u = unlinked j (t .skipped j l u)
 
-        -- every router but k: as before, or passed over
-        before : (j : ℕ) → j < k → cost-at costs j ≡ lowered w old m j
-        before j u = by (decLt j p)
-          where
-            by : Dec (j < p) → cost-at costs j ≡ lowered w old m j
-            by (yes l) = e .done j l
-            by (no l) = e .left j (omega arith) ∙ sym (pick-f _ _ _ (skip j (omega arith) u))
-
-        build : (next : List ℕ) (r : ℕ) → AreCosts next → ((j : ℕ) → j ≢ k → cost-at next j ≡ cost-at costs j)
-            → cost-at next k ≡ lowered w old m k
-            → r ≡ pick (falls w old m k) (2 ^ k) 0
+        build : (next : List ℕ) → AreCosts next → ((j : ℕ) → j ≢ k → cost-at next j ≡ cost-at costs j) → cost-at next k ≡ lowered w old m k
             → Eased near weights m old next (fell + r) (bitAnd rest (rest - 1)) (suc k)
-        build next r are same here bit = record {
+        build next are same here = record {
           passed = t .passed;
-          fits = omega (arith, t .fewer, e .fits);
           router = t .router;
           from = e .from;
           were = e .were;
           are = are;
-          done = λ j l. done j l (ℕ-discrete j k);
-          left = λ j l. same j (omega arith) ∙ e .left j (omega (arith, t .beyond));
-          fell-so-far = omega (arith, bit, e .fell-so-far, passed-over (falls w old m) p k (t .beyond) skip);
+          changed = one-changed no-cost (lowered w old m) old costs p (e .changed) k (t .beyond) (λ j l u. pick-f _ _ _ (skip j l u)) next same here;
+          fell-so-far = omega (arith, q ∙ ap (λ b. pick b (2 ^ k) 0) test, e .fell-so-far, passed-over (falls w old m) p k (t .beyond) skip);
         }
-          where
-            done : (j : ℕ) → j < suc k → Dec (j ≡ k) → cost-at next j ≡ lowered w old m j
-            done j l (yes i) = rw i here
-            done j l (no i) = same j i ∙ before j (omega arith)
 
         go : (b : Bool) → falls w old m k ≡ b → Eased near weights m old next (fell + r) (bitAnd rest (rest - 1)) (suc k)
         go true f =
             let c = test ∙ f in
             let s = cheaper-says (getD weights (64 * m + k) 0) (getD old m 0) (getD costs k 0) c in
             let n′ : next ≡ set costs k v = n ∙ pick-t _ _ _ c in
-            rw n′ (build (set costs k v) r
+            rw n′ (build (set costs k v)
             (written-costs costs (e .are) k v (t .router) (omega (arith, s .1, e .are .fit k)))
             (λ j i. getD-set-other costs k j v no-cost i)
-            (cost-written costs (e .are) k v (t .router) ∙ value ∙ sym (pick-t _ _ _ f))
-            (q ∙ ap (λ b. pick b (2 ^ k) 0) test))
+            (cost-written costs (e .are) k v (t .router) ∙ value ∙ sym (pick-t _ _ _ f)))
         go false f =
-            let c = test ∙ f in
-            let n′ : next ≡ costs = n ∙ pick-f _ _ _ c in
-            rw n′ (build costs r (e .are) (λ j i. refl)
-            (e .left k (t .beyond) ∙ sym (pick-f _ _ _ f))
-            (q ∙ ap (λ b. pick b (2 ^ k) 0) test))
+            let n′ : next ≡ costs = n ∙ pick-f _ _ _ (test ∙ f) in
+            rw n′ (build costs (e .are) (λ j i. refl) (e .changed .yet k (t .beyond) ∙ sym (pick-f _ _ _ f)))
 
     -- at the end no link is left
     pub all-eased : rest ≡ 0 → (fell ≡ fallen w old m) × (costs ≡ eased w old m)
     unfolding fallen eased
     all-eased z = (
       e .fell-so-far ∙ sym (passed-over (falls w old m) p 64 (e .router) (λ j l u. over j l)),
-      ext-getD no-cost costs _ (e .are .long ∙ sym (length-values (lowered w old m) 64)) (λ j l. at j (omega (arith, e .are .long)) (decLt j p)),
+      all-changed no-cost (lowered w old m) old costs p (e .changed) 64 (e .are .long) (λ j l. pick-f _ _ _ (over j l)),
     )
       where
         over : (j : ℕ) → p ≤ j → falls w old m j ≡ false
         over j l = unlinked j (at-end (getD near m 0) rest p (e .passed) z j l)
-
-        at : (j : ℕ) → j < 64 → Dec (j < p) → cost-at costs j ≡ cost-at (map (lowered w old m) (below 64)) j
-        at j b (yes l) = e .done j l ∙ sym (value-at (lowered w old m) 64 j no-cost b)
-        at j b (no l) = e .left j (omega arith) ∙ sym (pick-f _ _ _ (over j (omega arith))) ∙ sym (value-at (lowered w old m) 64 j no-cost b)

@@ -28,14 +28,12 @@ key costs k = getD costs k 0 * 64 + k
 -- the walk has passed all below p: no member among them has a lower key than `least`, which is the key of a member, if of any router
 pub record Least (costs : List ℕ) (waiting rest least p : ℕ) : Type 0 where
   pub passed : Passed waiting rest p
-  pub fits : rest < 2 ^ 64
   pub low : (k : ℕ) → k < p → has waiting k ≡ true → least ≤ key costs k
   pub own : least < 18446744073709551615 → (has waiting (least % 64) ≡ true) × (least / 64 ≡ getD costs (least % 64) 0)
 
 pub none-passed : (costs : List ℕ) (waiting : ℕ) → waiting < 2 ^ 64 → Least costs waiting waiting 18446744073709551615 0
 none-passed costs waiting b = record {
-  passed = setting-out waiting;
-  fits = b;
+  passed = setting-out waiting b;
   low = λ k h e. absurd (omega arith);
   own = λ h. absurd (omega arith);
 }
@@ -43,13 +41,12 @@ none-passed costs waiting b = record {
 module _ (costs : List ℕ) (waiting rest least p : ℕ) (w : Least costs waiting rest least p) where
   -- the next member
   pub next-key : rest ≢ 0 → Turn waiting rest p (trailingZeros 64 rest)
-  next-key s = next-member waiting rest p (w .passed) s (w .fits)
+  next-key s = next-member waiting rest p (w .passed) s
 
   -- one member more
   pub one-passed : (r k : ℕ) → r ≡ min least (key costs k) → Turn waiting rest p k → Least costs waiting (bitAnd rest (rest - 1)) r (suc k)
   one-passed r k e t = record {
     passed = t .passed;
-    fits = omega (arith, t .fewer, w .fits);
     low = low;
     own = own (decLt (key costs k) least);
   }

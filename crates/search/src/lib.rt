@@ -8,6 +8,7 @@ ghost use Rattle.rules.specs.Words.{pick};
 ghost use Rattle.webs.specs.Webs.{weight-over, web-weight, IsWeb};
 ghost use Rattle.search.specs.Search.{costs-from, sets-from};
 ghost use Rattle.search.specs.Steps.{AreCosts, AreSets, IsNearest, cheaper, as-cheap, eased, fallen, carried};
+use sets::no_sets;
 use webs::Web;
 
 // What is written where there is no route.
@@ -103,12 +104,6 @@ pub fn costs_from(web: Web, router: u8) -> [u32; 64]
         waiting = (waiting - (1u64 << m)) | fallen;
     }
     costs
-}
-
-fn no_sets() -> [u64; 64]
-    ensures { λ r. ⌜ r ≡ replicate 64 0 ⌝ }
-{
-    [0; 64]
 }
 
 // The first hops from a router over m to k: k itself where m is that router, else those to m.

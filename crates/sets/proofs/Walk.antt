@@ -3,26 +3,31 @@
 use mathlib.Core.Path.{_≡_, refl, sym, _∙_, ap}
 use mathlib.Core.Logic.{_≢_}
 use mathlib.Core.Bool.{Bool, true, false, false≢true}
+use mathlib.Core.List.{List, map}
 use Prim.Native.Nat.{ℕ, zero, suc, _+_, _-_, _^_, _≤_, _<_}
 use native.Mathlib.Nat.{zero-add}
 use native.Mathlib.Decide.{ℕ-discrete, decLt}
 use native.Mathlib.Omega.{arith}
 use lib.Bits.{bitAnd}
 use lib.Count.{trailingZeros}
+use lib.ListN.{length, getD}
 use lib.Pow.{pow-pos}
-use Rattle.rules.specs.Words.{pick}
+use lib.Seq.{ext-getD}
+use Rattle.rules.specs.Words.{pick, below}
 use Rattle.rules.specs.NextHops.{has, set-of}
+use Rattle.rules.proofs.Basics.{length-values, value-at}
 use Rattle.rules.proofs.Sets.{member-below, trailing}
 use Rattle.sets.proofs.Bits.{lowest-out, taken-out, others-stay}
 use Rattle.sets.proofs.Members.{nobody}
 
 -- the walk has passed all below p: from p on the rest has the set's members, and below p none
 pub record Passed (set rest p : ℕ) : Type 0 where
+  pub fits : rest < 2 ^ 64
   pub later : (k : ℕ) → p ≤ k → has rest k ≡ has set k
   pub gone : (k : ℕ) → k < p → has rest k ≡ false
 
-pub setting-out : (set : ℕ) → Passed set set 0
-setting-out set = record { later = λ k h. refl; gone = λ k h. absurd (omega arith) }
+pub setting-out : (set : ℕ) → set < 2 ^ 64 → Passed set set 0
+setting-out set b = record { fits = b; later = λ k h. refl; gone = λ k h. absurd (omega arith) }
 
 -- one turn: the next member k, and the rest without it
 pub record Turn (set rest p : ℕ) (k : ℕ) : Type 0 where
@@ -34,27 +39,31 @@ pub record Turn (set rest p : ℕ) (k : ℕ) : Type 0 where
   pub fewer : bitAnd rest (rest - 1) < rest
 
 module _ (set rest p : ℕ) (w : Passed set rest p) where
-  pub next-member : rest ≢ 0 → rest < 2 ^ 64 → Turn set rest p (trailingZeros 64 rest)
-  next-member s b = record {
+  pub next-member : rest ≢ 0 → Turn set rest p (trailingZeros 64 rest)
+  next-member s = record {
     beyond = beyond;
-    router = member-below rest k b (low .0);
+    router = member-below rest k (w .fits) (low .0);
     member = sym (w .later k beyond) ∙ low .0;
     skipped = λ j h l. sym (w .later j h) ∙ not-lower j l;
     passed = record {
+      fits = omega (arith, w .fits, fewer);
       later = λ j h. others-out j (omega arith) ∙ w .later j (omega (arith, beyond));
       gone = gone;
     };
-    fewer = omega (arith, out, pow-pos k);
+    fewer = fewer;
   }
     where
       k : ℕ
       k = trailingZeros 64 rest
 
       low : (has rest k ≡ true) × ((j : ℕ) → has rest j ≡ true → k ≤ j)
-      low = trailing 64 rest (omega arith) b
+      low = trailing 64 rest (omega arith) (w .fits)
 
       out : bitAnd rest (rest - 1) + 2 ^ k ≡ rest
-      out = lowest-out 64 rest (omega arith) b
+      out = lowest-out 64 rest (omega arith) (w .fits)
+
+      fewer : bitAnd rest (rest - 1) < rest
+      fewer = omega (arith, out, pow-pos k)
 
       less : bitAnd rest (rest - 1) ≡ rest - 2 ^ k
       less = omega (arith, out)
@@ -97,3 +106,38 @@ passed-over q p (suc n) h f = go (ℕ-discrete p (suc n)) (passed-over q p n)
     go : Dec (p ≡ suc n) → (p ≤ n → ((j : ℕ) → p ≤ j → j < n → q j ≡ false) → set-of q n ≡ set-of q p) → set-of q (suc n) ≡ set-of q p
     go (yes e) ih = ap (set-of q) (sym e)
     go (no a) ih = ap (λ t. pick t (2 ^ n) 0 + set-of q n) (f n (omega arith) (omega arith)) ∙ zero-add (set-of q n) ∙ ih (omega arith) (λ j l m. f j l (omega arith))
+
+-- ---- an array that is changed on the way
+
+-- below p its values are those of f, from p on they are the old ones; d stands for what lies behind its end
+pub record Changed (d : ℕ) (f : ℕ → ℕ) (old now : List ℕ) (p : ℕ) : Type 0 where
+  pub done : (j : ℕ) → j < p → getD now j d ≡ f j
+  pub yet : (j : ℕ) → p ≤ j → getD now j d ≡ getD old j d
+
+module _ (d : ℕ) (f : ℕ → ℕ) (old : List ℕ) where
+  pub none-changed : Changed d f old old 0
+  none-changed = record { done = λ j h. absurd (omega arith); yet = λ j h. refl }
+
+  module _ (now : List ℕ) (p : ℕ) (c : Changed d f old now p) where
+    -- one more, where f changes none that is passed over
+    pub one-changed : (k : ℕ) → p ≤ k → ((j : ℕ) → p ≤ j → j < k → f j ≡ getD old j d) → (next : List ℕ)
+        → ((j : ℕ) → j ≢ k → getD next j d ≡ getD now j d) → getD next k d ≡ f k → Changed d f old next (suc k)
+    one-changed k h skipped next same here = record {
+      done = λ j l. go j l (ℕ-discrete j k) (decLt j p);
+      yet = λ j l. same j (omega arith) ∙ c .yet j (omega arith);
+    }
+      where
+        go : (j : ℕ) → j < suc k → Dec (j ≡ k) → Dec (j < p) → getD next j d ≡ f j
+        go j l (yes e) b = rw e here
+        go j l (no a) (yes b) = same j a ∙ c .done j b
+        go j l (no a) (no b) = same j a ∙ c .yet j (omega arith) ∙ sym (skipped j (omega arith) (omega arith))
+
+    -- at the end the array is f's values
+    pub all-changed : (n : ℕ) → length now ≡ n → ((j : ℕ) → p ≤ j → f j ≡ getD old j d) → now ≡ map f (below n)
+    all-changed n long over =
+        ext-getD d now (map f (below n)) (long ∙ sym (length-values f n))
+        (λ j l. go j (decLt j p) ∙ sym (value-at f n j d (omega (arith, long))))
+      where
+        go : (j : ℕ) → Dec (j < p) → getD now j d ≡ f j
+        go j (yes b) = c .done j b
+        go j (no b) = c .yet j (omega arith) ∙ sym (over j (omega arith))

@@ -1,9 +1,17 @@
 // Sets of routers as 64-bit numbers, bit k for router k.
 ghost use mathlib.Core.Path.{_≡_};
+ghost use lib.ListN.{replicate};
 ghost use Rattle.rules.specs.NextHops.{has, chosen, size};
 
 // The chosen hop of the empty set: no router.
 pub const NO_HOP: u8 = 255;
+
+// 64 empty sets, one for each router.
+pub fn no_sets() -> [u64; 64]
+    ensures { λ r. ⌜ r ≡ replicate 64 0 ⌝ }
+{
+    [0; 64]
+}
 
 // Whether router k is a member.
 pub fn has(set: u64, k: u8) -> bool

@@ -23,6 +23,16 @@ pub is-web : (near weights : List ℕ) → length near ≡ 64 → length weights
     → ((i : ℕ) → Fits w64 (getD near i 0)) → ((z : ℕ) → Fits w16 (getD weights z 0)) → IsWeb near weights
 is-web near weights n m f g = record { near-long = n; weights-long = m; near-fits = λ i. omega (arith, f i); weights-fit = λ z. omega (arith, g z) }
 
+-- the weight of a link stands in its row; where the bit is not set there is no link
+module _ (near weights : List ℕ) (i k : ℕ) where
+  pub weight-there : has (getD near i 0) k ≡ true → weight-over near weights i k ≡ getD weights (64 * i + k) 0
+  unfolding weight-over
+  weight-there e = pick-t _ _ _ e
+
+  pub weight-none : has (getD near i 0) k ≡ false → weight-over near weights i k ≡ 0
+  unfolding weight-over
+  weight-none e = pick-f _ _ _ e
+
 module _ (near weights : List ℕ) (h : IsWeb near weights) where
   -- a link's bit is set
   pub linked : (i k : ℕ) → 0 < weight-over near weights i k → has (getD near i 0) k ≡ true

@@ -6,18 +6,13 @@ ghost use Rattle.links.specs.Links.{next-numbers};
 ghost use Rattle.webs.specs.Webs.{web-by, laid, link, near-with, weights-with};
 use links::NextLink;
 use links::link_by_number;
+use sets::no_sets;
 use tables::Outline;
 
 // For each of 64 routers the set of those that it is linked to, and 64 rows of 64 weights.
 pub struct Web {
     pub near: [u64; 64],
     pub weights: [u16; 4096],
-}
-
-fn no_sets() -> [u64; 64]
-    ensures { λ r. ⌜ r ≡ replicate 64 0 ⌝ }
-{
-    [0; 64]
 }
 
 fn no_weights() -> [u16; 4096]
