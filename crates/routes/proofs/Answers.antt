@@ -3,11 +3,11 @@
 use mathlib.Core.Path.{_≡_, sym, _∙_, ap}
 use mathlib.Core.Logic.{_≢_}
 use mathlib.Core.Bool.{Bool, true, false, _||_, or-true}
-use mathlib.Core.List.{List, [], _∷_, map}
+use mathlib.Core.List.{List, [], _∷_, _++_, map}
 use Prim.Native.Nat.{ℕ, _≤_, _<_}
 use native.Mathlib.Omega.{arith}
 use lib.Dec.{ltb}
-use lib.ListN.{length}
+use lib.ListN.{length, drop}
 use borrow.Author.Tests.{lt-ltb, le-ltb, le-leb, lt-leb}
 use Rattle.rules.specs.Words.{_when_, below}
 use Rattle.rules.specs.Table.{read, number-of, place-of, says}
@@ -15,14 +15,13 @@ use Rattle.rules.specs.Costs.{cost}
 use Rattle.rules.specs.NextHops.{next-hops}
 use Rattle.rules.specs.Questions.{Answer, answered, refused-with, refusal, answer, afterwards, bad-router, fill-answer, costs-after, sets-after}
 use Rattle.rules.specs.Demand1.{IsAccepted}
-use Rattle.rules.proofs.Acceptance.{obeys}
+use Rattle.rules.proofs.Basics.{length-values}
 use Rattle.rules.proofs.Lines.{line-applies, line-passes, no-lines-left, table-bad, table-good}
 use Rattle.rules.proofs.Refusals.{writes, stays}
 use Rattle.tables.specs.Readings.{outline-of}
 use Rattle.tables.specs.declared.Outline.{Outline}
 use Rattle.routes.specs.declared.Filling.the-variants.{Filled, Refused}
-use Rattle.routes.specs.Fillings.{filling-numbers, Fills, first-of}
-use Rattle.routes.proofs.Handed.{first-values}
+use Rattle.routes.specs.Fillings.{filling-numbers, Fills}
 
 module _ (table : List ℕ) (d : ℕ) (costs sets : List ℕ) where
   -- a refusal leaves what was lent
@@ -75,8 +74,8 @@ module _ (table : List ℕ) (d : ℕ) (costs sets : List ℕ) where
       sets-short h = refused-10 (rw (lt-ltb (length sets) routers (omega (arith, same))) (or-true (ltb (length costs) routers)))
 
       pub filled : t .routers ≤ length costs → t .routers ≤ length sets → (costs′ sets′ : List ℕ)
-          → costs′ ≡ first-of (t .routers) (map (λ i. cost (says table) i d) (below 64)) costs
-          → sets′ ≡ first-of (t .routers) (map (λ i. next-hops (says table) i d) (below 64)) sets
+          → costs′ ≡ map (λ i. cost (says table) i d) (below (t .routers)) ++ drop (t .routers) costs
+          → sets′ ≡ map (λ i. next-hops (says table) i d) (below (t .routers)) ++ drop (t .routers) sets
           → Fills table d costs sets (Filled (t .routers)) costs′ sets′
       unfolding filling-numbers costs-after sets-after
       filled h l costs′ sets′ x y = (
@@ -93,8 +92,8 @@ module _ (table : List ℕ) (d : ℕ) (costs sets : List ℕ) where
           e = inside ∙ line-passes _ _ (refusal 10 when short) [] enough ∙ no-lines-left _ _
 
           holds : (f : ℕ → ℕ) (lent : List ℕ)
-              → first-of (t .routers) (map f (below 64)) lent ≡ afterwards (fill-answer table d costs sets) (map f (below routers)) lent
+              → map f (below (t .routers)) ++ drop (t .routers) lent ≡ afterwards (fill-answer table d costs sets) (map f (below routers)) lent
           holds f lent =
-              ap (λ (n : ℕ). first-of n (map f (below 64)) lent) same
-              ∙ first-values f 64 lent routers (obeys table a .few-routers)
+              ap (λ (n : ℕ). map f (below n) ++ drop n lent) same
+              ∙ ap (λ (n : ℕ). map f (below routers) ++ drop n lent) (sym (length-values f routers))
               ∙ sym (writes (fill-answer table d costs sets) (map f (below routers)) lent (ap (λ (a : Answer ℕ). a .refusal .number) e))

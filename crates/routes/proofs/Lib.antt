@@ -1,5 +1,4 @@
 pub mod Answers
 pub mod Found
-pub mod Handed
 pub mod Hops
 pub mod Settled

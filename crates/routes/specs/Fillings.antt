@@ -1,8 +1,7 @@
 -- What the fill answers, in document 01's numbers, and what it writes.
 use mathlib.Core.Path.{_≡_}
-use mathlib.Core.List.{List, _++_}
+use mathlib.Core.List.{List}
 use Prim.Native.Nat.{ℕ}
-use lib.ListN.{take, drop}
 use Rattle.rules.specs.Questions.{Answer, answered, refused-with, IsNumber, fill-answer, costs-after, sets-after}
 use Rattle.routes.specs.declared.Filling.{Filling}
 use Rattle.routes.specs.declared.Filling.the-variants.{Filled, Refused}
@@ -24,7 +23,3 @@ Fills table d costs sets r costs′ sets′ =
     × Numbered r
     × (costs′ ≡ costs-after table d costs sets)
     × (sets′ ≡ sets-after table d costs sets)
-
--- the first n numbers of an array, and behind them what was lent
-unfoldable pub first-of : ℕ → List ℕ → List ℕ → List ℕ
-first-of n found lent = take n found ++ drop n lent

@@ -1,9 +1,9 @@
 // Next-hop sets over a web, and the fill: costs and sets of one destination.
 ghost use mathlib.Core.Path.{_≡_};
 ghost use mathlib.Core.Bool.{_&&_};
-ghost use mathlib.Core.List.{map};
+ghost use mathlib.Core.List.{_++_, map};
 ghost use Prim.Native.Nat.{_+_, _^_, _<_, _≤_};
-ghost use lib.ListN.{length};
+ghost use lib.ListN.{length, take, drop};
 ghost use Rattle.rules.specs.Words.{_=?_, _<?_, pick, below};
 ghost use Rattle.rules.specs.Table.{says};
 ghost use Rattle.rules.specs.Costs.{cost};
@@ -13,7 +13,7 @@ ghost use Rattle.tables.specs.Readings.{outline-of};
 ghost use Rattle.webs.specs.Webs.{weight-over, web-weight, IsWeb};
 ghost use Rattle.search.specs.Search.{hops-over};
 ghost use Rattle.search.specs.Steps.{AreCosts, cost-at};
-ghost use Rattle.routes.specs.Fillings.{Fills, first-of};
+ghost use Rattle.routes.specs.Fillings.{Fills};
 use search::costs_from;
 use sets::no_sets;
 use tables::Outline;
@@ -84,7 +84,7 @@ pub fn sets_by(web: Web, costs: [u32; 64]) -> [u64; 64]
 // The first n costs and sets, into the lent outputs.
 fn hand_over(n: usize, found: [u32; 64], hops: [u64; 64], costs: &mut [u32], sets: &mut [u64])
     requires { ⌜ (n ≤ 64) × (n ≤ length (now costs)) × (n ≤ length (now sets)) ⌝ }
-    ensures { λ _. ⌜ (now (costs .exit) ≡ first-of n found (now (costs .entry))) × (now (sets .exit) ≡ first-of n hops (now (sets .entry))) ⌝ }
+    ensures { λ _. ⌜ (now (costs .exit) ≡ take n found ++ drop n (now (costs .entry))) × (now (sets .exit) ≡ take n hops ++ drop n (now (sets .entry))) ⌝ }
 {
     let mut i = 0;
     while i < n {
@@ -99,8 +99,8 @@ fn fill_accepted(table: &[u8], t: Outline, destination: u8, costs: &mut [u32], s
     requires { ⌜ IsAccepted (now table) × (t ≡ outline-of (now table)) × (destination < t .routers)
         × (t .routers ≤ length (now costs)) × (t .routers ≤ length (now sets)) ⌝ }
     ensures { λ _. ⌜
-        (now (costs .exit) ≡ first-of (t .routers) (map (λ i. cost (says (now (table .entry))) i destination) (below 64)) (now (costs .entry)))
-        × (now (sets .exit) ≡ first-of (t .routers) (map (λ i. next-hops (says (now (table .entry))) i destination) (below 64)) (now (sets .entry)))
+        (now (costs .exit) ≡ map (λ i. cost (says (now (table .entry))) i destination) (below (t .routers)) ++ drop (t .routers) (now (costs .entry)))
+        × (now (sets .exit) ≡ map (λ i. next-hops (says (now (table .entry))) i destination) (below (t .routers)) ++ drop (t .routers) (now (sets .entry)))
         ⌝ }
 {
     let web = web_of(table, t);

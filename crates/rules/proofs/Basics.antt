@@ -1,7 +1,7 @@
 -- What the other files use: tests whose outcome is known, induction on a measure, counting and the pigeonhole principle, and lists: what holds of
 -- every element, a part of a part, the values of a function at 0 to n − 1, the numbers that pass a test.
 -- Assumes nothing.
-use mathlib.Core.Path.{_≡_, refl, sym, _∙_, ap}
+use mathlib.Core.Path.{_≡_, refl, sym, _∙_, ap, ap₂}
 use mathlib.Core.Logic.{_≢_}
 use mathlib.Core.Bool.{Bool, true, false, _&&_, _||_, or-true, false≢true}
 use mathlib.Core.List.{List, [], _∷_, _++_, map, map-append}
@@ -232,6 +232,15 @@ module _ {A : Type 0} (f : ℕ → A) where
   pub All-values : (P : A → Type 0) → ((k : ℕ) → P (f k)) → (ks : List ℕ) → All P (map f ks)
   All-values P h [] = tt
   All-values P h (k ∷ ks) = (h k, All-values P h ks)
+
+-- a function's values at 0 to n − 1 are settled by its values there
+pub values-same : (f g : ℕ → ℕ) (n : ℕ) → ((d : ℕ) → d < n → f d ≡ g d) → map f (below n) ≡ map g (below n)
+unfolding below
+values-same f g zero h = refl
+values-same f g (suc n) h =
+    values-more f n
+    ∙ ap₂ (λ l x. l ++ (x ∷ [])) (values-same f g n (λ d l. h d (omega arith))) (h n (omega arith))
+    ∙ sym (values-more g n)
 
 pub below-at : (n k other : ℕ) → k < n → getD (below n) k other ≡ k
 below-at n k other h = ap (λ l. getD l k other) (sym (map-same (below n))) ∙ value-at (λ z. z) n k other h

@@ -36,23 +36,24 @@ holds a n written lent e l h = record {
       ∙ omega (arith, length-drop (length written) lent);
 }
 
--- the rows of an interface table, each as long as there are routers
+-- rows of n columns, one for each of js
+pub length-rows : (f : ℕ → ℕ → ℕ) (n : ℕ) (js : List ℕ) → length (flatten (map (λ j. map (f j) (below n)) js)) ≡ length js * n
+unfolding flatten
+length-rows f n [] = omega arith
+length-rows f n (j ∷ js) =
+    length-append (map (f j) (below n)) (flatten (map (λ j. map (f j) (below n)) js))
+    ∙ omega (arith, length-values (f j) n, length-rows f n js, suc-mul (length js) n)
+
+-- the rows of an interface table are each as long as there are routers
 length-row : (t : Table) (i j : ℕ) → length (row t i j) ≡ t .routers
 unfolding row
 length-row t i j = length-values _ (t .routers)
 
-length-rows : (t : Table) (i : ℕ) (js : List ℕ) → length (flatten (map (row t i) js)) ≡ length js * t .routers
-unfolding flatten
-length-rows t i [] = omega arith
-length-rows t i (j ∷ js) =
-    length-append (row t i j) (flatten (map (row t i) js))
-    ∙ omega (arith, length-row t i j, length-rows t i js, suc-mul (length js) (t .routers))
-
 pub length-interfaces : (t : Table) (i : ℕ) → length (interfaces t i) ≡ (t .routers + 1) * t .routers
-unfolding interfaces
+unfolding interfaces row
 length-interfaces t i =
     let e : suc (length (below (t .routers))) ≡ t .routers + 1 = omega (arith, length-below (t .routers)) in
-    length-rows t i (starts-here ∷ below (t .routers)) ∙ ap (λ n. n * t .routers) e
+    length-rows (cell t i) (t .routers) (starts-here ∷ below (t .routers)) ∙ ap (λ n. n * t .routers) e
 
 -- row r of them, column d
 cell-of : (t : Table) (i : ℕ) (js : List ℕ) (r d : ℕ) → r < length js → d < t .routers

@@ -23,6 +23,7 @@ use Rattle.tables.specs.Readings.{links-start, outline-of}
 use Rattle.tables.specs.declared.Outline.{Outline}
 use Rattle.links.specs.Links.{link-at}
 use Rattle.links.proofs.Stand.{link-by-number}
+use Rattle.webs.specs.declared.Web.{Web}
 use Rattle.webs.specs.Webs.{web-weight, web-by, laid}
 use Rattle.webs.proofs.Webs.{web-is}
 use Rattle.webs.proofs.Laying.{next-laid}
@@ -126,8 +127,9 @@ module _ (bytes : List ℕ) (e : IsAccepted bytes) where
 
 -- the web of an accepted table's links says the table's weights
 pub accepted-web : (bytes : List ℕ) → IsAccepted bytes → (t : Outline) → t ≡ outline-of bytes
-    → web-weight (web-by (weight-in (laid bytes (t .start) (t .links)))) ≡ weight (says bytes)
-accepted-web bytes e t q =
-    ap (λ (o : Outline). web-weight (web-by (weight-in (laid bytes (o .start) (o .links))))) q
+    → (web : Web) → web ≡ web-by (weight-in (laid bytes (t .start) (t .links))) → web-weight web ≡ weight (says bytes)
+accepted-web bytes e t q web p =
+    ap web-weight p
+    ∙ ap (λ (o : Outline). web-weight (web-by (weight-in (laid bytes (o .start) (o .links))))) q
     ∙ ap (λ w. web-weight (web-by w)) (all-laid bytes e)
     ∙ web-is (wide (says bytes) (obeys bytes e))

@@ -2,8 +2,8 @@
 -- Assumes nothing.
 use native.Mathlib.Omega.{arith}
 use borrow.Author.Needs.{needs}
-use Rattle.routes.proofs.Found.{few, own-weights, found-costs, found-sets}
-use Rattle.routes.proofs.Handed.{first-same}
+use Rattle.webs.proofs.Accepted.{accepted-web}
+use Rattle.routes.proofs.Found.{few, found-costs, found-sets}
 use Rattle.routes.proofs.fill_accepted.Statement.{statement}
 use Rattle.routes.proofs.fill_accepted.Tie as tie
 
@@ -35,11 +35,10 @@ returns c =
     let m = c .before .before .before .before .before .before .before .before in
     let p = m .before .before .before .before .before .before .pre in
     let h = c .before .before .before .before .hand-over .ensures in
-    let w = own-weights _ (p .0) _ (p .1) _ (m .before .before .web-of .ensures) in (
-      first-same _ _ _ _ (h .0) _ (found-costs _ (p .0) _ w _ _ (m .before .costs-from .ensures)),
-      first-same _ _ _ _ (h .1) _
-          (found-sets _ (p .0) _ w _ _ (m .before .costs-from .ensures) (omega (arith, p .2, few _ (p .0) _ (p .1))) _ (m .sets-by .ensures)),
-    )
+    let w = accepted-web _ (p .0) _ (p .1) _ (m .before .before .web-of .ensures) in
+    let n = few _ (p .0) _ (p .1) in
+    let f = m .before .costs-from .ensures in
+    (found-costs _ (p .0) _ w _ _ n _ f _ _ (h .0), found-sets _ (p .0) _ w _ _ n _ f _ _ (omega (arith, p .2, n)) _ (m .sets-by .ensures) (h .1))
 
 pub fill-accepted-spec : {M : Type 1} → statement M
 fill-accepted-spec =

@@ -3,21 +3,20 @@
 use mathlib.Core.Path.{_≡_, refl}
 use Prim.Native.Nat.{_-_, _≤_}
 use native.Mathlib.Omega.{arith}
-use lib.ListN.{length}
+use lib.ListN.{length, getD}
 use borrow.Author.Needs.{needs}
-use Rattle.routes.specs.Fillings.{first-of}
-use Rattle.routes.proofs.Handed.{first-none, first-more, first-length, first-done}
+use Rattle.rules.proofs.Filling.{Filled, none-filled, one-filled, first-filled}
 use Rattle.routes.proofs.hand_over.Statement.{statement}
 use Rattle.routes.proofs.hand_over.Tie as tie
 
 abbrev Inv-loop : tie.InvT-loop
-Inv-loop n costs₀ sets₀ found hops i₀ costs sets i = (i ≤ n) × (costs ≡ first-of i found costs₀) × (sets ≡ first-of i hops sets₀)
+Inv-loop n costs₀ sets₀ found hops i₀ costs sets i = (i ≤ n) × Filled (λ k. getD found k 0) costs₀ costs i × Filled (λ k. getD hops k 0) sets₀ sets i
 
 abbrev μ-loop : tie.MeasureT-loop
 μ-loop n costs₀ sets₀ found hops i₀ costs sets i = n - i
 
 loop-holds : tie.Need-loop-holds Inv-loop μ-loop
-loop-holds c = (omega arith, first-none _ _, first-none _ _)
+loop-holds c = (omega arith, none-filled _ _, none-filled _ _)
 
 mul-costs : tie.Need-mul-costs Inv-loop μ-loop
 mul-costs c = omega (arith, c .before .before .pre)
@@ -29,10 +28,7 @@ mul-costs-2 : tie.Need-mul-costs-2 Inv-loop μ-loop
 mul-costs-2 c = omega (arith, c .before .before .pre)
 
 slice-write-costs : tie.Need-slice-write-costs Inv-loop μ-loop
-slice-write-costs c =
-    let s = c .before .before in
-    let n : length (s .args .t2) ≡ 64 = search needs in
-    omega (arith, s .pre, first-length _ _ (c .before .loop .costs) _ (c .before .loop .inv .1) (omega (arith, s .pre)) (omega (arith, s .pre)))
+slice-write-costs c = omega (arith, c .before .before .pre, c .before .loop .inv .1 .same-length)
 
 mul-sets : tie.Need-mul-sets Inv-loop μ-loop
 mul-sets c = omega (arith, c .before .before .pre)
@@ -44,10 +40,7 @@ mul-sets-2 : tie.Need-mul-sets-2 Inv-loop μ-loop
 mul-sets-2 c = omega (arith, c .before .before .pre)
 
 slice-write-sets : tie.Need-slice-write-sets Inv-loop μ-loop
-slice-write-sets c =
-    let s = c .before .before in
-    let n : length (s .args .t3) ≡ 64 = search needs in
-    omega (arith, s .pre, first-length _ _ (c .before .loop .sets) _ (c .before .loop .inv .2) (omega (arith, s .pre)) (omega (arith, s .pre)))
+slice-write-sets c = omega (arith, c .before .before .pre, c .before .loop .inv .2 .same-length)
 
 add-i : tie.Need-add-i Inv-loop μ-loop
 add-i c = omega arith
@@ -57,28 +50,26 @@ loop-less c = omega arith
 
 loop-again : tie.Need-loop-again Inv-loop μ-loop
 loop-again c =
-    let s = c .before .before in
-    let n : length (s .args .t2) ≡ 64 = search needs in
-    let m : length (s .args .t3) ≡ 64 = search needs in (
+    let p = c .before .before .pre in
+    let v = c .before .loop .inv in (
       omega arith,
-      first-more _ _ _ _ _ (c .before .loop .inv .1) (omega (arith, s .pre)) (omega (arith, s .pre)) refl,
-      first-more _ _ _ _ _ (c .before .loop .inv .2) (omega (arith, s .pre)) (omega (arith, s .pre)) refl,
+      one-filled _ _ _ _ (v .1) _ (omega (arith, p, v .1 .same-length)) refl,
+      one-filled _ _ _ _ (v .2) _ (omega (arith, p, v .2 .same-length)) refl,
     )
 
 same-length : tie.Need-same-length Inv-loop μ-loop
-same-length c =
-    let s = c .before .before in
-    let n : length (s .args .t2) ≡ 64 = search needs in
-    first-length _ _ (c .before .loop .costs) _ (c .before .loop .inv .1) (omega (arith, s .pre)) (omega (arith, s .pre))
+same-length c = c .before .loop .inv .1 .same-length
 
 same-length-2 : tie.Need-same-length-2 Inv-loop μ-loop
-same-length-2 c =
-    let s = c .before .before in
-    let n : length (s .args .t3) ≡ 64 = search needs in
-    first-length _ _ (c .before .loop .sets) _ (c .before .loop .inv .2) (omega (arith, s .pre)) (omega (arith, s .pre))
+same-length-2 c = c .before .loop .inv .2 .same-length
 
 returns : tie.Need-returns Inv-loop μ-loop
-returns c = (first-done _ _ _ _ _ (c .before .loop .inv .1) (omega arith), first-done _ _ _ _ _ (c .before .loop .inv .2) (omega arith))
+returns c =
+    let s = c .before .before in
+    let n : length (s .args .t2) ≡ 64 = search needs in
+    let m : length (s .args .t3) ≡ 64 = search needs in
+    let v = c .before .loop .inv in
+    (first-filled _ _ _ _ (v .1) (s .args .n) (omega arith) (omega (arith, s .pre)), first-filled _ _ _ _ (v .2) (s .args .n) (omega arith) (omega (arith, s .pre)))
 
 pub hand-over-spec : {M : Type 1} → statement M
 hand-over-spec =

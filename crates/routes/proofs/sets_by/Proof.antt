@@ -1,25 +1,22 @@
 -- `routes::sets_by` meets its contract: the sets of the first i routers are made, and the others are empty.
 -- Assumes nothing.
-use mathlib.Core.List.{map}
 use mathlib.Core.Path.{_≡_}
 use Prim.Native.Nat.{_-_, _≤_}
 use native.Mathlib.Omega.{arith}
 use mir.Syntax.{w32}
 use mir.Val.{Fits}
-use lib.ListN.{getD}
+use lib.ListN.{length, getD}
 use borrow.Author.Needs.{needs}
-use Rattle.rules.specs.Words.{below}
 use Rattle.webs.specs.Webs.{web-weight}
 use Rattle.webs.proofs.Webs.{is-web}
 use Rattle.search.specs.Steps.{cost-at}
 use Rattle.search.specs.Search.{hops-over}
-use Rattle.routes.specs.Fillings.{first-of}
-use Rattle.routes.proofs.Handed.{first-none, value-more, values-all}
+use Rattle.rules.proofs.Filling.{Filled, none-filled, one-filled, all-of-filled}
 use Rattle.routes.proofs.sets_by.Statement.{statement}
 use Rattle.routes.proofs.sets_by.Tie as tie
 
 abbrev Inv-loop : tie.InvT-loop
-Inv-loop web costs sets₀ i₀ sets i = (i ≤ 64) × (sets ≡ first-of i (map (hops-over (web-weight web) (cost-at costs)) (below 64)) sets₀)
+Inv-loop web costs sets₀ i₀ sets i = (i ≤ 64) × Filled (hops-over (web-weight web) (cost-at costs)) sets₀ sets i
 
 abbrev μ-loop : tie.MeasureT-loop
 μ-loop web costs sets₀ i₀ sets i = 64 - i
@@ -28,7 +25,7 @@ no-sets-requires : tie.Need-no-sets-requires Inv-loop μ-loop
 no-sets-requires c κs = tt
 
 loop-holds : tie.Need-loop-holds Inv-loop μ-loop
-loop-holds c = (omega arith, first-none _ _)
+loop-holds c = (omega arith, none-filled _ _)
 
 hops-at-requires : tie.Need-hops-at-requires Inv-loop μ-loop
 hops-at-requires c κs =
@@ -53,10 +50,12 @@ loop-less c = omega arith
 loop-again : tie.Need-loop-again Inv-loop μ-loop
 loop-again c =
     let l = c .before .before .before .before .before in
-    (omega arith, value-more _ _ _ _ _ _ (l .before .loop .inv .1) (l .loop-test .taken) (search needs) (c .hops-at .ensures))
+    let long : length (l .before .before .no-sets .result) ≡ 64 = search needs in
+    (omega arith, one-filled _ _ _ _ (l .before .loop .inv .1) _ (omega (arith, l .before .loop .inv .1 .same-length)) (c .hops-at .ensures))
 
 returns : tie.Need-returns Inv-loop μ-loop
-returns c = values-all _ _ _ _ _ (c .before .loop .inv .1) (omega arith) (search needs)
+returns c =
+    all-of-filled _ _ _ _ (c .before .loop .inv .1) 64 (search needs) (c .loop-test .left)
 
 pub sets-by-spec : {M : Type 1} → statement M
 sets-by-spec =

@@ -1,0 +1,111 @@
+// What a router does with a packet: the entry by a next-hop set, its code, and the entry question.
+ghost use mathlib.Core.Path.{_≡_};
+ghost use Prim.Native.Nat.{_<_};
+ghost use Rattle.rules.specs.Table.{says};
+ghost use Rattle.rules.specs.Entries.{entry-by, entry, code};
+ghost use Rattle.rules.specs.Demand1.{IsAccepted};
+ghost use Rattle.tables.specs.Readings.{outline-of};
+ghost use Rattle.entries.specs.Entries.{entry-told, rules-by, bad-numbers, Enters};
+use routes::next_hops;
+use search::costs_from;
+use sets::chosen;
+use sets::has;
+use tables::Outline;
+use tables::Reading;
+use tables::read;
+use webs::web_of;
+
+// The entry of a router: what it does with a packet.
+pub enum Entry {
+    Deliver,
+    Discard,
+    NoRoute,
+    Forward(u8),
+}
+
+// The entry question's answer: the entry, or a number and a place.
+pub enum EntryAnswer {
+    Given(Entry),
+    Refused { number: u8, place: usize },
+}
+
+// The previous hop of a packet that starts here.
+pub const STARTS_HERE: u8 = 255;
+
+// The entry by the router's next-hop set for the destination: the first line that applies.
+pub fn decide(set: u64, router: u8, previous: u8, destination: u8) -> Entry
+    ensures { λ r. ⌜ entry-told r ≡ entry-by (rules-by set) router previous destination ⌝ }
+{
+    if router == destination {
+        return Entry::Deliver;
+    }
+    if set == 0 {
+        return Entry::NoRoute;
+    }
+    let hop = chosen(set);
+    if has(set, previous) {
+        return Entry::Discard;
+    }
+    Entry::Forward(hop)
+}
+
+// The code of an entry in an interface table.
+pub fn code(entry: Entry) -> u8
+    ensures { λ r. ⌜ r ≡ code (entry-told entry) ⌝ }
+{
+    match entry {
+        Entry::Deliver => 128,
+        Entry::Discard => 129,
+        Entry::NoRoute => 130,
+        Entry::Forward(k) => k,
+    }
+}
+
+// 9: a router or a destination that is not below N, or a previous hop that is neither 255 nor below N, or is the router itself.
+fn numbers_are_bad(routers: u64, router: u64, previous: u64, destination: u64) -> bool
+    ensures { λ r. ⌜ r ≡ bad-numbers routers router previous destination ⌝ }
+{
+    if routers <= router {
+        return true;
+    }
+    if routers <= destination {
+        return true;
+    }
+    if previous == router {
+        return true;
+    }
+    if previous == (STARTS_HERE as u64) {
+        return false;
+    }
+    routers <= previous
+}
+
+// The entry in an accepted table, by the costs to the destination and the router's next-hop set.
+fn entry_in(table: &[u8], t: Outline, router: u8, previous: u8, destination: u8) -> Entry
+    requires { ⌜ IsAccepted (now table) × (t ≡ outline-of (now table)) × (destination < 64) ⌝ }
+    ensures { λ r. ⌜ entry-told r ≡ entry (says (now (table .entry))) router previous destination ⌝ }
+{
+    let web = web_of(table, t);
+    let costs = costs_from(web, destination);
+    let set = next_hops(web, costs, router);
+    decide(set, router, previous, destination)
+}
+
+// The entry of a router for a previous hop (255: the packet starts here) and a destination.
+pub fn entry_of(table: &[u8], router: u64, previous: u64, destination: u64) -> EntryAnswer
+    ensures { λ r. ⌜ Enters (now (table .entry)) router previous destination r ⌝ }
+{
+    let reading = read(table);
+    match reading {
+        Reading::Accepted(t) => {
+            if numbers_are_bad(t.routers as u64, router, previous, destination) {
+                return EntryAnswer::Refused {
+                    number: 9,
+                    place: 0,
+                };
+            }
+            EntryAnswer::Given(entry_in(table, t, router as u8, previous as u8, destination as u8))
+        }
+        Reading::Refused { number, place } => EntryAnswer::Refused { number, place },
+    }
+}

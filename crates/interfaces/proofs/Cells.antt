@@ -1,0 +1,138 @@
+-- The cells of an interface table, by the router's next-hop sets.
+-- Assumes nothing.
+use mathlib.Core.Path.{_≡_, refl, sym, _∙_, ap}
+use mathlib.Core.Logic.{_≢_, inl}
+use mathlib.Core.Bool.{Bool, true, false}
+use mathlib.Core.List.{List, _∷_, _++_, map, flatten}
+use Prim.Native.Nat.{ℕ, _+_, _*_, _^_, _≤_, _<_}
+use native.Mathlib.Decide.{ℕ-discrete}
+use native.Mathlib.Omega.{arith}
+use lib.Dec.{eqb}
+use lib.ListN.{length, getD, take, drop, replicate}
+use lib.Seq.{length-take-le}
+use borrow.Author.Tests.{eq-eqb, ne-eqb}
+use Rattle.rules.specs.Words.{pick, below}
+use Rattle.rules.specs.Layout.{Table, Obeys}
+use Rattle.rules.specs.Table.{says}
+use Rattle.rules.specs.Links.{weight-in}
+use Rattle.rules.specs.NextHops.{has, chosen, next-hops}
+use Rattle.rules.specs.Entries.{starts-here, entry-by, code, cell, row, interfaces}
+use Rattle.rules.specs.Demand1.{IsAccepted}
+use Rattle.rules.proofs.Acceptance.{obeys}
+use Rattle.rules.proofs.Filling.{Filled, all-of-filled}
+use Rattle.rules.proofs.Basics.{values-same, pick-t, pick-f, value-at}
+use Rattle.rules.proofs.Sets.{has-below, empty-sets}
+use Rattle.tables.specs.Readings.{outline-of}
+use Rattle.tables.specs.declared.Outline.{Outline}
+use Rattle.webs.specs.declared.Web.{Web}
+use Rattle.webs.specs.Webs.{web-by, laid, web-weight}
+use Rattle.webs.proofs.Accepted.{accepted-web}
+use Rattle.search.specs.Search.{sets-from}
+use Rattle.search.proofs.OfTable.{sets-of-table}
+use Rattle.entries.specs.declared.Entry.{Entry}
+use Rattle.entries.specs.Entries.{entry-told, rules-by}
+use Rattle.entries.proofs.Entries.{delivers, cut-off, drops, sends, by-set}
+use Rattle.interfaces.specs.Interfaces.{AreSets, code-by, cell-by, start-codes, code-from, rows}
+
+-- ---- row 255
+
+pub start-code : (sets : List ℕ) (i d : ℕ) (e : Entry) (v : ℕ) → entry-told e ≡ entry-by (rules-by (getD sets d 0)) i starts-here d → v ≡ code (entry-told e)
+    → v ≡ code-by sets i starts-here d
+unfolding code-by
+start-code sets i d e v p q = q ∙ ap code p
+
+pub whole-codes : (sets : List ℕ) (i : ℕ) (lent codes : List ℕ) (d : ℕ) → lent ≡ replicate 64 0 → Filled (code-by sets i starts-here) lent codes d → 64 ≤ d
+    → codes ≡ start-codes sets i
+unfolding start-codes
+whole-codes sets i lent codes d e w h =
+    all-of-filled (code-by sets i starts-here) lent codes d w 64 (ap length e) h
+
+-- ---- the rows
+
+-- any other row differs from row 255 where the previous hop is a member of the set
+code-split : (set i j d : ℕ) → set < 2 ^ 64 → (i ≡ d → set ≡ 0)
+    → pick (has set j) 129 (code (entry-by (rules-by set) i starts-here d)) ≡ code (entry-by (rules-by set) i j d)
+unfolding entry-told
+code-split set i j d b own = go (ℕ-discrete i d) (ℕ-discrete set 0) (has set j) refl
+  where
+    nobody : set ≡ 0 → has set j ≡ false
+    nobody e = has-below set 0 j (omega arith) (omega arith)
+
+    go : Dec (i ≡ d) → Dec (set ≡ 0) → (t : Bool) → has set j ≡ t
+        → pick (has set j) 129 (code (entry-by (rules-by set) i starts-here d)) ≡ code (entry-by (rules-by set) i j d)
+    go (yes e) s t q = pick-f _ _ _ (nobody (own e)) ∙ ap code (sym (delivers set i starts-here d e) ∙ delivers set i j d e)
+    go (no a) (yes s) t q = pick-f _ _ _ (nobody s) ∙ ap code (sym (cut-off set i starts-here d a s) ∙ cut-off set i j d a s)
+    go (no a) (no s) true q = pick-t _ _ _ q ∙ ap code (drops set i j d a s q)
+    go (no a) (no s) false q =
+        pick-f _ _ _ q
+        ∙ ap code (sym (sends set i starts-here d a s (chosen set) refl (has-below set 64 starts-here b (omega arith))) ∙ sends set i j d a s (chosen set) refl q)
+
+module _ (sets : List ℕ) (i : ℕ) (codes : List ℕ) (e : codes ≡ start-codes sets i) where
+  code-at : (d : ℕ) → d < 64 → getD codes d 0 ≡ code-by sets i starts-here d
+  unfolding start-codes
+  code-at d h = ap (λ l. getD l d 0) e ∙ value-at (code-by sets i starts-here) 64 d 0 h
+
+  -- row 255, in the first part of what is lent
+  pub start-row : (n : ℕ) (lent row : List ℕ) → n ≤ 64 → i < n → (n + 1) * n ≤ length lent → row ≡ map (λ d. getD codes d 0) (below (length (take n lent)))
+      → row ≡ map (cell-by sets i starts-here) (below n)
+  unfolding cell-by
+  start-row n lent row h l r q =
+      q
+      ∙ ap (λ k. map (λ d. getD codes d 0) (below k)) (length-take-le n lent (omega arith))
+      ∙ values-same _ _ n (λ d b. code-at d (omega arith) ∙ sym (pick-f _ _ _ (ne-eqb i starts-here (omega arith))))
+
+  pub other-row : (n j : ℕ) (row : List ℕ) → n ≤ 64 → AreSets sets i → j ≢ i → row ≡ map (code-from sets codes j) (below n)
+      → row ≡ map (cell-by sets i j) (below n)
+  unfolding code-from cell-by code-by
+  other-row n j row h s a q = q ∙ values-same _ _ n one
+    where
+      one : (d : ℕ) → d < n → code-from sets codes j d ≡ cell-by sets i j d
+      one d b =
+          ap (λ c. pick (has (getD sets d 0) j) 129 c) (code-at d (omega arith))
+          ∙ code-split (getD sets d 0) i j d (s .fit d) (λ q. ap (λ k. getD sets k 0) (sym q) ∙ s .own)
+          ∙ sym (pick-f _ _ _ (ne-eqb i j (λ q. a (sym q))))
+
+pub own-row : (sets : List ℕ) (i j n : ℕ) (row : List ℕ) → j ≡ i → row ≡ map (λ d. 131) (below n) → row ≡ map (cell-by sets i j) (below n)
+unfolding cell-by
+own-row sets i j n row e q = q ∙ values-same _ _ n (λ d b. sym (pick-t _ _ _ (eq-eqb i j (sym e))))
+
+-- ---- the table's own cells
+
+-- tables of rows are settled by their cells
+rows-same : (f g : ℕ → ℕ → ℕ) (n m : ℕ) → ((j d : ℕ) → d < n → f j d ≡ g j d) → rows f n m ≡ rows g n m
+unfolding rows
+rows-same f g n m h = ap (λ (r : ℕ → List ℕ). flatten (map r (starts-here ∷ below m))) (λ z j. values-same (f j) (g j) n (h j) z)
+
+module _ (t : Table) (o : Obeys t) (sets : List ℕ) (i : ℕ) (e : sets ≡ map (λ d. next-hops t i d) (below 64)) where
+  set-at : (d : ℕ) → d < 64 → getD sets d 0 ≡ next-hops t i d
+  set-at d h = ap (λ l. getD l d 0) e ∙ value-at (λ d. next-hops t i d) 64 d 0 h
+
+  pub own-empty : i < t .routers → getD sets i 0 ≡ 0
+  own-empty h = set-at i (omega (arith, o .few-routers)) ∙ empty-sets t o i i .1 (inl refl)
+
+  pub whole-table : rows (cell-by sets i) (t .routers) (t .routers) ≡ interfaces t i
+  unfolding interfaces row rows cell cell-by code-by
+  whole-table = rows-same (cell-by sets i) (cell t i) (t .routers) (t .routers) one
+    where
+      one : (j d : ℕ) → d < t .routers → cell-by sets i j d ≡ cell t i j d
+      one j d h = ap (λ r. pick (eqb i j) 131 (code r)) (by-set t o i j d (getD sets d 0) (set-at d (omega (arith, o .few-routers))))
+
+-- the rows over the web of an accepted table
+module _ (table : List ℕ) (a : IsAccepted table) (t : Outline) (q : t ≡ outline-of table)
+    (web : Web) (e : web ≡ web-by (weight-in (laid table (t .start) (t .links))))
+    (i : ℕ) (sets : List ℕ) (f : sets ≡ sets-from (web-weight web) i) where
+  own-sets : sets ≡ map (λ d. next-hops (says table) i d) (below 64)
+  own-sets = f ∙ sets-of-table (says table) (obeys table a) (web-weight web) (accepted-web table a t q web e) i
+
+  own-n : t .routers ≡ says table .routers
+  own-n = ap (λ (t : Outline). t .routers) q
+
+  pub sets-fit-rows : i < t .routers → (t .routers ≤ 64) × (getD sets i 0 ≡ 0)
+  sets-fit-rows h = (omega (arith, own-n, obeys table a .few-routers), own-empty (says table) (obeys table a) sets i own-sets (omega (arith, own-n)))
+
+  pub rows-of-table : (lent out : List ℕ) → out ≡ rows (cell-by sets i) (t .routers) (t .routers) ++ drop ((t .routers + 1) * t .routers) lent
+      → out ≡ interfaces (says table) i ++ drop ((t .routers + 1) * t .routers) lent
+  rows-of-table lent out g =
+      g
+      ∙ ap (λ r. r ++ drop ((t .routers + 1) * t .routers) lent)
+      (ap (λ n. rows (cell-by sets i) n n) own-n ∙ whole-table (says table) (obeys table a) sets i own-sets)

@@ -1,0 +1,4 @@
+pub mod Rows
+pub mod Cells
+pub mod Answers
+pub mod Settled

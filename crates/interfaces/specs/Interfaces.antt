@@ -1,0 +1,54 @@
+-- A router's interface table by its next-hop sets, and what the question about it answers, in document 01's numbers.
+use mathlib.Core.Path.{_≡_}
+use mathlib.Core.List.{List, _∷_, map, flatten}
+use Prim.Native.Nat.{ℕ, _^_, _<_}
+use lib.ListN.{getD}
+use Rattle.rules.specs.Words.{_=?_, pick, below}
+use Rattle.rules.specs.NextHops.{has}
+use Rattle.rules.specs.Entries.{starts-here, entry-by, code, discard}
+use Rattle.rules.specs.Questions.{Answer, answered, refused-with, IsNumber, interfaces-answer, interfaces-after}
+use Rattle.entries.specs.Entries.{rules-by}
+use Rattle.interfaces.specs.declared.Writing.{Writing}
+use Rattle.interfaces.specs.declared.Writing.the-variants.{Written, Refused}
+
+-- ---- the question
+
+-- the numbers of each case
+unfoldable pub writing-numbers : Writing → Answer ℕ
+writing-numbers (Written bytes) = answered bytes
+writing-numbers (Refused number place) = refused-with 0 number 0 place
+
+-- a refusal has a number
+abbrev pub Numbered : Writing → Type 0
+Numbered (Written bytes) = Unit {0}
+Numbered (Refused number place) = IsNumber number
+
+-- r answers the question about router i's interface table, and the output holds afterwards what it is to hold
+abbrev pub Writes : List ℕ → ℕ → List ℕ → Writing → List ℕ → Type 0
+Writes table i out r out′ = (writing-numbers r ≡ interfaces-answer table i out) × Numbered r × (out′ ≡ interfaces-after table i out)
+
+-- ---- rows by the router's next-hop sets for each destination
+
+-- each set is a 64-bit number, and router i's set for itself is empty
+pub record AreSets (sets : List ℕ) (i : ℕ) : Type 0 where
+  pub fit : (d : ℕ) → getD sets d 0 < 2 ^ 64
+  pub own : getD sets i 0 ≡ 0
+
+-- router i, previous hop j, destination d
+unfoldable pub code-by : List ℕ → ℕ → ℕ → ℕ → ℕ
+code-by sets i j d = code (entry-by (rules-by (getD sets d 0)) i j d)
+
+unfoldable pub cell-by : List ℕ → ℕ → ℕ → ℕ → ℕ
+cell-by sets i j d = pick (i =? j) 131 (code-by sets i j d)
+
+-- the codes of row 255, for each of 64 destinations
+unfoldable pub start-codes : List ℕ → ℕ → List ℕ
+start-codes sets i = map (code-by sets i starts-here) (below 64)
+
+-- the code for a previous hop: discard where it is a member, else that of row 255
+unfoldable pub code-from : List ℕ → List ℕ → ℕ → ℕ → ℕ
+code-from sets codes j d = pick (has (getD sets d 0) j) (code discard) (getD codes d 0)
+
+-- rows of n cells: row 255 first, then previous hops 0 to m − 1
+unfoldable pub rows : (ℕ → ℕ → ℕ) → ℕ → ℕ → List ℕ
+rows f n m = flatten (map (λ j. map (f j) (below n)) (starts-here ∷ below m))

@@ -1,0 +1,176 @@
+// The full interface table of a router: row 255 first, then a row for each previous hop, with a column for each destination.
+ghost use mathlib.Core.Path.{_≡_};
+ghost use mathlib.Core.List.{_++_, map};
+ghost use Prim.Native.Nat.{_+_, _*_, _≤_, _<_};
+ghost use lib.ListN.{length, getD, drop, replicate};
+ghost use Rattle.rules.specs.Words.{pick, below};
+ghost use Rattle.rules.specs.Table.{says};
+ghost use Rattle.rules.specs.NextHops.{has};
+ghost use Rattle.rules.specs.Entries.{interfaces};
+ghost use Rattle.rules.specs.Demand1.{IsAccepted};
+ghost use Rattle.tables.specs.Readings.{outline-of};
+ghost use Rattle.interfaces.specs.Interfaces.{Writes, AreSets, cell-by, start-codes, code-from, rows};
+use entries::STARTS_HERE;
+use entries::code;
+use entries::decide;
+use search::sets_from;
+use tables::Outline;
+use tables::Reading;
+use tables::read;
+use webs::web_of;
+
+// The answer: how many bytes are written, or a number and a place.
+pub enum Writing {
+    Written(u16),
+    Refused { number: u8, place: usize },
+}
+
+// The code of a packet that is discarded.
+const DISCARD: u8 = 129;
+
+// What stands in the whole row of the router itself.
+const OWN_ROW: u8 = 131;
+
+fn no_codes() -> [u8; 64]
+    ensures { λ r. ⌜ r ≡ replicate 64 0 ⌝ }
+{
+    [0; 64]
+}
+
+// The codes of row 255, by the router's next-hop sets for each destination.
+fn start_codes(sets: &[u64; 64], router: u8) -> [u8; 64]
+    ensures { λ r. ⌜ r ≡ start-codes (now (sets .entry)) router ⌝ }
+{
+    let mut codes = no_codes();
+    let mut d = 0;
+    while d < 64 {
+        codes[d] = code(decide(sets[d], router, STARTS_HERE, d as u8));
+        d += 1;
+    }
+    codes
+}
+
+// Discard where the previous hop is a member of the set, else the code of row 255.
+fn code_from(set: u64, previous: usize, code: u8) -> u8
+    requires { ⌜ previous < 64 ⌝ }
+    ensures { λ r. ⌜ r ≡ pick (has set previous) 129 code ⌝ }
+{
+    if (set >> previous) & 1 == 1 {
+        return DISCARD;
+    }
+    code
+}
+
+// Row 255.
+fn write_start(codes: &[u8; 64], row: &mut [u8])
+    requires { ⌜ length (now row) ≤ 64 ⌝ }
+    ensures { λ _. ⌜ now (row .exit) ≡ map (λ d. getD (now (codes .entry)) d 0) (below (length (now (row .entry)))) ⌝ }
+{
+    let mut d = 0;
+    while d < row.len() {
+        row[d] = codes[d];
+        d += 1;
+    }
+}
+
+// The row of the router itself.
+fn write_own(row: &mut [u8])
+    ensures { λ _. ⌜ now (row .exit) ≡ map (λ d. 131) (below (length (now (row .entry)))) ⌝ }
+{
+    let mut d = 0;
+    while d < row.len() {
+        row[d] = OWN_ROW;
+        d += 1;
+    }
+}
+
+// The row of another previous hop.
+fn write_other(sets: &[u64; 64], codes: &[u8; 64], previous: usize, row: &mut [u8])
+    requires { ⌜ (previous < 64) × (length (now row) ≤ 64) ⌝ }
+    ensures { λ _. ⌜ now (row .exit) ≡ map (code-from (now (sets .entry)) (now (codes .entry)) previous) (below (length (now (row .entry)))) ⌝ }
+{
+    let mut d = 0;
+    while d < row.len() {
+        row[d] = code_from(sets[d], previous, codes[d]);
+        d += 1;
+    }
+}
+
+// The row of a previous hop.
+fn write_row(sets: &[u64; 64], codes: &[u8; 64], router: usize, previous: usize, row: &mut [u8])
+    requires { ⌜ AreSets (now sets) router × (now codes ≡ start-codes (now sets) router) × (previous < 64) × (length (now row) ≤ 64) ⌝ }
+    ensures { λ _. ⌜ now (row .exit) ≡ map (cell-by (now (sets .entry)) router previous) (below (length (now (row .entry)))) ⌝ }
+{
+    if previous == router {
+        write_own(row);
+        return;
+    }
+    write_other(sets, codes, previous, row);
+}
+
+// All rows, by the router's next-hop sets for each of n destinations.
+fn write_rows(n: usize, router: u8, sets: [u64; 64], out: &mut [u8])
+    requires { ⌜ (n ≤ 64) × (router < n) × (getD sets router 0 ≡ 0) × ((n + 1) * n ≤ length (now out)) ⌝ }
+    ensures { λ _. ⌜ now (out .exit) ≡ rows (cell-by sets router) n n ++ drop ((n + 1) * n) (now (out .entry)) ⌝ }
+{
+    let codes = start_codes(&sets, router);
+    write_start(&codes, &mut out[..n]);
+    let mut start = n;
+    let mut previous = 0;
+    while previous < n {
+        let end = start + n;
+        write_row(
+            &sets,
+            &codes,
+            router as usize,
+            previous,
+            &mut out[start..end],
+        );
+        start = end;
+        previous += 1;
+    }
+}
+
+// How many bytes the table has for this many routers.
+fn size_for(routers: u8) -> u16
+    ensures { λ r. ⌜ r ≡ (routers + 1) * routers ⌝ }
+{
+    ((routers as u16) + 1) * (routers as u16)
+}
+
+// The interface table of an accepted table's router.
+fn write_accepted(table: &[u8], t: Outline, router: u8, out: &mut [u8])
+    requires { ⌜ IsAccepted (now table) × (t ≡ outline-of (now table)) × (router < t .routers) × ((t .routers + 1) * t .routers ≤ length (now out)) ⌝ }
+    ensures { λ _. ⌜ now (out .exit) ≡ interfaces (says (now (table .entry))) router ++ drop ((t .routers + 1) * t .routers) (now (out .entry)) ⌝ }
+{
+    let web = web_of(table, t);
+    let sets = sets_from(web, router);
+    write_rows(t.routers as usize, router, sets, out);
+}
+
+// The full interface table of a router.
+pub fn interfaces(table: &[u8], router: u64, out: &mut [u8]) -> Writing
+    ensures { λ r. ⌜ Writes (now (table .entry)) router (now (out .entry)) r (now (out .exit)) ⌝ }
+{
+    let reading = read(table);
+    match reading {
+        Reading::Accepted(t) => {
+            if (t.routers as u64) <= router {
+                return Writing::Refused {
+                    number: 9,
+                    place: 0,
+                };
+            }
+            let size = size_for(t.routers);
+            if out.len() < (size as usize) {
+                return Writing::Refused {
+                    number: 10,
+                    place: 0,
+                };
+            }
+            write_accepted(table, t, router as u8, out);
+            Writing::Written(size)
+        }
+        Reading::Refused { number, place } => Writing::Refused { number, place },
+    }
+}
