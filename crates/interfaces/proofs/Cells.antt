@@ -4,9 +4,11 @@ use mathlib.Core.Path.{_≡_, refl, sym, _∙_, ap}
 use mathlib.Core.Logic.{_≢_, inl}
 use mathlib.Core.Bool.{Bool, true, false}
 use mathlib.Core.List.{List, _∷_, _++_, map, flatten}
-use Prim.Native.Nat.{ℕ, _+_, _*_, _^_, _≤_, _<_}
+use Prim.Native.Nat.{ℕ, zero, suc, _+_, _*_, _^_, _≤_, _<_, _/_}
+use native.Mathlib.Numerals.{add-one}
 use native.Mathlib.Decide.{ℕ-discrete}
 use native.Mathlib.Omega.{arith}
+use lib.Bits.{bitAnd, bitOr}
 use lib.Dec.{eqb}
 use lib.ListN.{length, getD, take, drop, replicate}
 use lib.Seq.{length-take-le}
@@ -20,10 +22,11 @@ use Rattle.rules.specs.Entries.{starts-here, entry-by, code, cell, row, interfa
 use Rattle.rules.specs.Demand1.{IsAccepted}
 use Rattle.rules.proofs.Acceptance.{obeys}
 use Rattle.rules.proofs.Filling.{Filled, all-of-filled}
-use Rattle.rules.proofs.Basics.{values-same, pick-t, pick-f, value-at}
+use Rattle.rules.proofs.Basics.{values-same, neither, pick-t, pick-f, value-at}
 use Rattle.rules.proofs.Sets.{has-below, empty-sets}
 use Rattle.tables.specs.Readings.{outline-of}
 use Rattle.tables.specs.declared.Outline.{Outline}
+use Rattle.sets.proofs.Bits.{has-joined, shifted-down}
 use Rattle.webs.specs.declared.Web.{Web}
 use Rattle.webs.specs.Webs.{web-by, laid, web-weight}
 use Rattle.webs.proofs.Accepted.{accepted-web}
@@ -32,7 +35,7 @@ use Rattle.search.proofs.OfTable.{sets-of-table}
 use Rattle.entries.specs.declared.Entry.{Entry}
 use Rattle.entries.specs.Entries.{entry-told, rules-by}
 use Rattle.entries.proofs.Entries.{delivers, cut-off, drops, sends, by-set}
-use Rattle.interfaces.specs.Interfaces.{AreSets, code-by, cell-by, start-codes, code-from, rows}
+use Rattle.interfaces.specs.Interfaces.{AreSets, code-by, cell-by, start-codes, code-from, members-of, rows}
 
 -- ---- row 255
 
@@ -67,6 +70,35 @@ code-split set i j d b own = go (ℕ-discrete i d) (ℕ-discrete set 0) (has set
         pick-f _ _ _ q
         ∙ ap code (sym (sends set i starts-here d a s (chosen set) refl (has-below set 64 starts-here b (omega arith))) ∙ sends set i j d a s (chosen set) refl q)
 
+-- a router that is no member of all the sets is in none of them
+nowhere : (sets : List ℕ) (n j : ℕ) → has (members-of sets n) j ≡ false → (d : ℕ) → d < n → has (getD sets d 0) j ≡ false
+unfolding members-of
+nowhere sets zero j e d h = absurd (omega arith)
+nowhere sets (suc n) j e d h = go (ℕ-discrete d n) (neither _ _ (sym (has-joined j (members-of sets n) (getD sets n 0)) ∙ e)) (nowhere sets n j)
+  where
+    go : Dec (d ≡ n) → (has (members-of sets n) j ≡ false) × (has (getD sets n 0) j ≡ false)
+        → (has (members-of sets n) j ≡ false → (d : ℕ) → d < n → has (getD sets d 0) j ≡ false) → has (getD sets d 0) j ≡ false
+    go (yes q) f ih = rw q (f .1)
+    go (no q) f ih = ih (f .0) d (omega arith)
+
+-- as the code tests it
+pub no-member : (set k : ℕ) → bitAnd (set / 2 ^ k) 1 ≡ 0 → has set k ≡ false
+no-member set k e = sym (shifted-down set k) ∙ ap (λ n. eqb n 1) e
+
+-- all members, set by set
+pub no-members : (sets : List ℕ) → 0 ≡ members-of sets 0
+unfolding members-of
+no-members sets = refl
+
+pub more-members : (sets : List ℕ) (members d : ℕ) → members ≡ members-of sets d → bitOr members (getD sets d 0) ≡ members-of sets (d + 1)
+unfolding members-of
+more-members sets members d e = ap (λ m. bitOr m (getD sets d 0)) e ∙ ap (members-of sets) (sym (add-one d))
+
+pub whole-members : (sets : List ℕ) (members d : ℕ) → members ≡ members-of sets d → d ≤ 64 → 64 ≤ d → members ≡ members-of sets 64
+whole-members sets members d e h l =
+    let q : d ≡ 64 = omega arith in
+    e ∙ ap (members-of sets) q
+
 module _ (sets : List ℕ) (i : ℕ) (codes : List ℕ) (e : codes ≡ start-codes sets i) where
   code-at : (d : ℕ) → d < 64 → getD codes d 0 ≡ code-by sets i starts-here d
   unfolding start-codes
@@ -91,6 +123,14 @@ module _ (sets : List ℕ) (i : ℕ) (codes : List ℕ) (e : codes ≡ start-cod
           ap (λ c. pick (has (getD sets d 0) j) 129 c) (code-at d (omega arith))
           ∙ code-split (getD sets d 0) i j d (s .fit d) (λ q. ap (λ k. getD sets k 0) (sym q) ∙ s .own)
           ∙ sym (pick-f _ _ _ (ne-eqb i j (λ q. a (sym q))))
+
+  -- the row of a previous hop that is in no set is row 255
+  pub same-row : (n j members : ℕ) (row : List ℕ) → n ≤ 64 → AreSets sets i → j ≢ i → members ≡ members-of sets 64 → has members j ≡ false
+      → row ≡ map (λ d. getD codes d 0) (below n) → row ≡ map (cell-by sets i j) (below n)
+  unfolding code-from
+  same-row n j members row h s a m f q =
+      other-row n j row h s a
+      (q ∙ values-same _ _ n (λ d b. sym (pick-f _ _ _ (nowhere sets 64 j (ap (λ m. has m j) (sym m) ∙ f) d (omega arith)))))
 
 pub own-row : (sets : List ℕ) (i j n : ℕ) (row : List ℕ) → j ≡ i → row ≡ map (λ d. 131) (below n) → row ≡ map (cell-by sets i j) (below n)
 unfolding cell-by

@@ -1,7 +1,8 @@
 -- A router's interface table by its next-hop sets, and what the question about it answers, in document 01's numbers.
 use mathlib.Core.Path.{_≡_}
 use mathlib.Core.List.{List, _∷_, map, flatten}
-use Prim.Native.Nat.{ℕ, _^_, _<_}
+use Prim.Native.Nat.{ℕ, zero, suc, _^_, _<_}
+use lib.Bits.{bitOr}
 use lib.ListN.{getD}
 use Rattle.rules.specs.Words.{_=?_, pick, below}
 use Rattle.rules.specs.NextHops.{has}
@@ -44,6 +45,11 @@ cell-by sets i j d = pick (i =? j) 131 (code-by sets i j d)
 -- the codes of row 255, for each of 64 destinations
 unfoldable pub start-codes : List ℕ → ℕ → List ℕ
 start-codes sets i = map (code-by sets i starts-here) (below 64)
+
+-- the routers that are in any of the first n sets
+unfoldable pub members-of : List ℕ → ℕ → ℕ
+members-of sets zero = 0
+members-of sets (suc n) = bitOr (members-of sets n) (getD sets n 0)
 
 -- the code for a previous hop: discard where it is a member, else that of row 255
 unfoldable pub code-from : List ℕ → List ℕ → ℕ → ℕ → ℕ

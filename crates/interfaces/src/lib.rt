@@ -9,7 +9,7 @@ ghost use Rattle.rules.specs.NextHops.{has};
 ghost use Rattle.rules.specs.Entries.{interfaces};
 ghost use Rattle.rules.specs.Demand1.{IsAccepted};
 ghost use Rattle.tables.specs.Readings.{outline-of};
-ghost use Rattle.interfaces.specs.Interfaces.{Writes, AreSets, cell-by, start-codes, code-from, rows};
+ghost use Rattle.interfaces.specs.Interfaces.{Writes, AreSets, cell-by, start-codes, code-from, members-of, rows};
 use entries::STARTS_HERE;
 use entries::code;
 use entries::decide;
@@ -50,6 +50,19 @@ fn start_codes(sets: &[u64; 64], router: u8) -> [u8; 64]
     codes
 }
 
+// The routers that are in any of the sets.
+fn all_members(sets: &[u64; 64]) -> u64
+    ensures { λ r. ⌜ r ≡ members-of (now (sets .entry)) 64 ⌝ }
+{
+    let mut members = 0;
+    let mut d = 0;
+    while d < 64 {
+        members = members | sets[d];
+        d += 1;
+    }
+    members
+}
+
 // Discard where the previous hop is a member of the set, else the code of row 255.
 fn code_from(set: u64, previous: usize, code: u8) -> u8
     requires { ⌜ previous < 64 ⌝ }
@@ -61,7 +74,7 @@ fn code_from(set: u64, previous: usize, code: u8) -> u8
     code
 }
 
-// Row 255.
+// Row 255, and the row of a previous hop that is in no set.
 fn write_start(codes: &[u8; 64], row: &mut [u8])
     requires { ⌜ length (now row) ≤ 64 ⌝ }
     ensures { λ _. ⌜ now (row .exit) ≡ map (λ d. getD (now (codes .entry)) d 0) (below (length (now (row .entry)))) ⌝ }
@@ -84,7 +97,7 @@ fn write_own(row: &mut [u8])
     }
 }
 
-// The row of another previous hop.
+// The row of a previous hop that is in some of the sets.
 fn write_other(sets: &[u64; 64], codes: &[u8; 64], previous: usize, row: &mut [u8])
     requires { ⌜ (previous < 64) × (length (now row) ≤ 64) ⌝ }
     ensures { λ _. ⌜ now (row .exit) ≡ map (code-from (now (sets .entry)) (now (codes .entry)) previous) (below (length (now (row .entry)))) ⌝ }
@@ -97,12 +110,24 @@ fn write_other(sets: &[u64; 64], codes: &[u8; 64], previous: usize, row: &mut [u
 }
 
 // The row of a previous hop.
-fn write_row(sets: &[u64; 64], codes: &[u8; 64], router: usize, previous: usize, row: &mut [u8])
-    requires { ⌜ AreSets (now sets) router × (now codes ≡ start-codes (now sets) router) × (previous < 64) × (length (now row) ≤ 64) ⌝ }
+fn write_row(
+    sets: &[u64; 64],
+    members: u64,
+    codes: &[u8; 64],
+    router: usize,
+    previous: usize,
+    row: &mut [u8],
+)
+    requires { ⌜ AreSets (now sets) router × (members ≡ members-of (now sets) 64) × (now codes ≡ start-codes (now sets) router)
+        × (previous < 64) × (length (now row) ≤ 64) ⌝ }
     ensures { λ _. ⌜ now (row .exit) ≡ map (cell-by (now (sets .entry)) router previous) (below (length (now (row .entry)))) ⌝ }
 {
     if previous == router {
         write_own(row);
+        return;
+    }
+    if (members >> previous) & 1 == 0 {
+        write_start(codes, row);
         return;
     }
     write_other(sets, codes, previous, row);
@@ -114,6 +139,7 @@ fn write_rows(n: usize, router: u8, sets: [u64; 64], out: &mut [u8])
     ensures { λ _. ⌜ now (out .exit) ≡ rows (cell-by sets router) n n ++ drop ((n + 1) * n) (now (out .entry)) ⌝ }
 {
     let codes = start_codes(&sets, router);
+    let members = all_members(&sets);
     write_start(&codes, &mut out[..n]);
     let mut start = n;
     let mut previous = 0;
@@ -121,6 +147,7 @@ fn write_rows(n: usize, router: u8, sets: [u64; 64], out: &mut [u8])
         let end = start + n;
         write_row(
             &sets,
+            members,
             &codes,
             router as usize,
             previous,

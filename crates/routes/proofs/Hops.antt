@@ -2,17 +2,18 @@
 -- Assumes nothing.
 use mathlib.Core.Path.{_≡_, refl, sym, _∙_}
 use mathlib.Core.Logic.{_≢_}
-use mathlib.Core.Bool.{Bool, false, _&&_}
+use mathlib.Core.Bool.{Bool, true, false, _&&_}
 use mathlib.Core.List.{List}
 use Prim.Native.Nat.{ℕ, suc, _+_, _-_, _*_, _%_, _^_, _≤_, _<_}
 use native.Mathlib.Nat.{lt-of-lt-of-le, add-comm}
 use native.Mathlib.Omega.{arith}
+use mir.Val.{boolByte}
 use lib.Bits.{bitAnd}
 use lib.Count.{trailingZeros}
 use lib.Dec.{eqb, ltb}
 use lib.ListN.{length, getD, List·getD-eq-default}
 use lib.Pow.{pow-mono}
-use borrow.Author.Tests.{lt-ltb, eq-eqb, ne-eqb}
+use borrow.Author.Tests.{lt-ltb}
 use Rattle.rules.specs.Words.{pick}
 use Rattle.rules.specs.Costs.{no-cost}
 use Rattle.rules.specs.NextHops.{has, set-of}
@@ -35,11 +36,13 @@ module _ (k weight there here : ℕ) where
   pub bit-unlinked : weight ≡ 0 → 0 ≡ bit
   bit-unlinked e = rw e
 
-  pub bit-leads : k < 64 → weight ≢ 0 → weight + there ≡ here → (1 * 2 ^ k) % 18446744073709551616 ≡ bit
-  bit-leads h w e = rw (lt-ltb 0 weight (omega arith), eq-eqb (weight + there) here e) (one-bit k h)
+  -- the test's outcome, as a bit moved to k
+  moved : k < 64 → (t : Bool) → (boolByte t * 2 ^ k) % 18446744073709551616 ≡ pick t (2 ^ k) 0
+  moved h true = one-bit k h
+  moved h false = omega arith
 
-  pub bit-astray : weight ≢ 0 → weight + there ≢ here → 0 ≡ bit
-  bit-astray w e = rw (lt-ltb 0 weight (omega arith), ne-eqb (weight + there) here e)
+  pub bit-linked : k < 64 → weight ≢ 0 → (boolByte (eqb (weight + there) here) * 2 ^ k) % 18446744073709551616 ≡ bit
+  bit-linked h w = rw (lt-ltb 0 weight (omega arith)) (moved h (eqb (weight + there) here))
 
 -- ---- the walk
 

@@ -36,10 +36,8 @@ fn leads(k: usize, weight: u16, there: u32, here: u32) -> u64
     if weight == 0 {
         return 0;
     }
-    if (weight as u64) + (there as u64) == (here as u64) {
-        return 1u64 << k;
-    }
-    0
+    let onward = (weight as u64) + (there as u64) == (here as u64);
+    (onward as u64) << k
 }
 
 // The next-hop set of one router: one walk over its links.

@@ -1,7 +1,7 @@
 -- `interfaces::write_row` meets its contract.
 -- Assumes nothing.
 use borrow.Author.Needs.{needs}
-use Rattle.interfaces.proofs.Cells.{own-row, other-row}
+use Rattle.interfaces.proofs.Cells.{own-row, same-row, other-row, no-member}
 use Rattle.interfaces.proofs.write_row.Statement.{statement}
 use Rattle.interfaces.proofs.write_row.Tie as tie
 
@@ -14,20 +14,46 @@ same-length c = search needs
 returns : tie.Need-returns
 returns c = own-row _ _ _ _ _ (c .before .before .before .before .if1 .taken) (c .before .before .write-own .ensures)
 
-write-other-requires : tie.Need-write-other-requires
-write-other-requires c κs =
-    let p = c .before .before .before .pre in
-    (p .2, p .3)
+shr-if2 : tie.Need-shr-if2
+shr-if2 c = search needs
+
+write-start-requires : tie.Need-write-start-requires
+write-start-requires c κs = c .before .before .before .before .pre .4
 
 same-length-2 : tie.Need-same-length-2
 same-length-2 c = search needs
 
 returns-2 : tie.Need-returns-2
 returns-2 c =
-    let p = c .before .before .before .before .before .before .pre in
-    other-row _ _ _ (p .1) _ _ _ (p .3) (p .0) (c .before .before .before .before .if1 .left) (c .before .before .write-other .ensures)
+    let l = c .before .before .before .before in
+    let p = l .before .before .before .pre in
+    same-row _ _ _ (p .2) _ _ _ _ (p .4) (p .0) (l .before .if1 .left) (p .1) (no-member _ _ (l .if2 .taken)) (c .before .before .write-start .ensures)
+
+write-other-requires : tie.Need-write-other-requires
+write-other-requires c κs =
+    let p = c .before .before .before .before .pre in
+    (p .3, p .4)
+
+same-length-3 : tie.Need-same-length-3
+same-length-3 c = search needs
+
+returns-3 : tie.Need-returns-3
+returns-3 c =
+    let l = c .before .before .before .before in
+    let p = l .before .before .before .pre in
+    other-row _ _ _ (p .2) _ _ _ (p .4) (p .0) (l .before .if1 .left) (c .before .before .write-other .ensures)
 
 pub write-row-spec : {M : Type 1} → statement M
 write-row-spec =
     tie.close
-    (tie.spec write-own-requires same-length returns write-other-requires same-length-2 returns-2)
+    (tie.spec
+    write-own-requires
+    same-length
+    returns
+    shr-if2
+    write-start-requires
+    same-length-2
+    returns-2
+    write-other-requires
+    same-length-3
+    returns-3)

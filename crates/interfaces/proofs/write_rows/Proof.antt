@@ -15,31 +15,34 @@ use Rattle.interfaces.proofs.write_rows.Statement.{statement}
 use Rattle.interfaces.proofs.write_rows.Tie as tie
 
 abbrev Inv-loop : tie.InvT-loop
-Inv-loop n router out₀ sets codes start₀ previous₀ out start previous = Rowed (cell-by sets router) n out₀ out previous start
+Inv-loop n router out₀ sets codes members start₀ previous₀ out start previous = Rowed (cell-by sets router) n out₀ out previous start
 
 abbrev μ-loop : tie.MeasureT-loop
-μ-loop n router out₀ sets codes start₀ previous₀ out start previous = n - previous
+μ-loop n router out₀ sets codes members start₀ previous₀ out start previous = n - previous
 
 start-codes-requires : tie.Need-start-codes-requires Inv-loop μ-loop
 start-codes-requires c κs = search needs
+
+all-members-requires : tie.Need-all-members-requires Inv-loop μ-loop
+all-members-requires c κs = search needs
 
 slice-relend-prefix-write-start : tie.Need-slice-relend-prefix-write-start Inv-loop μ-loop
 slice-relend-prefix-write-start c = omega arith
 
 slice-aggregate-write-start : tie.Need-slice-aggregate-write-start Inv-loop μ-loop
 slice-aggregate-write-start c =
-    let s = c .before .before .before .before .before in
+    let s = c .before .before .before .before .before .before .before in
     sym (length-take-le (s .args .n) (s .args .out .now) (omega arith))
 
 write-start-requires : tie.Need-write-start-requires Inv-loop μ-loop
 write-start-requires c κs =
-    let s = c .before .before .before .before .before in
+    let s = c .before .before .before .before .before .before .before in
     omega (arith, length-take-le (s .args .n) (s .args .out .now) (omega arith))
 
 loop-holds : tie.Need-loop-holds Inv-loop μ-loop
 loop-holds c =
     let w = c .before .before in
-    let m = w .before .before .before in
+    let m = w .before .before .before .before .before in
     let p = m .before .before .before .pre in
     let e = start-row _ _ _ (m .start-codes .ensures) _ _ _ (p .0) (p .1) (p .3) (w .write-start .ensures) in
     row-started _ _ _ _ e (p .3)
@@ -59,9 +62,11 @@ part-write-row-end c = row-room _ _ _ _ _ _ (c .before .before .before .loop .in
 write-row-requires : tie.Need-write-row-requires Inv-loop μ-loop
 write-row-requires c κs =
     let l = c .before .before .before .before in
-    let m = l .before .before .before .before .before .before in
+    let a = l .before .before .before .before .before .before in
+    let m = a .before .before in
     let s = m .before .before .before in (
       record { fit = λ d. (let f : Fits w64 (getD (s .args .t3) d 0) = search needs in omega arith); own = s .pre .2 },
+      a .all-members .ensures,
       m .start-codes .ensures,
       omega arith,
       omega (arith, row-long _ _ _ _ _ _ (l .loop .inv) (c .before .before .before .loop-test .taken)),
@@ -81,7 +86,7 @@ loop-again c =
 same-length : tie.Need-same-length Inv-loop μ-loop
 same-length c =
     let w = c .before .before .before .before in
-    let m = w .before .before .before in
+    let m = w .before .before .before .before .before in
     let p = m .before .before .before .pre in
     let e = start-row _ _ _ (m .start-codes .ensures) _ _ _ (p .0) (p .1) (p .3) (w .write-start .ensures) in
     rows-long _ _ _ _ e _ _ _ (c .before .loop .inv) (p .3)
@@ -89,7 +94,7 @@ same-length c =
 returns : tie.Need-returns Inv-loop μ-loop
 returns c =
     let w = c .before .before .before .before in
-    let m = w .before .before .before in
+    let m = w .before .before .before .before .before in
     let p = m .before .before .before .pre in
     let e = start-row _ _ _ (m .start-codes .ensures) _ _ _ (p .0) (p .1) (p .3) (w .write-start .ensures) in
     rows-ended _ _ _ _ e _ _ _ (c .before .loop .inv) (c .loop-test .left)
@@ -101,6 +106,7 @@ write-rows-spec =
     Inv-loop
     μ-loop
     start-codes-requires
+    all-members-requires
     slice-relend-prefix-write-start
     slice-aggregate-write-start
     write-start-requires
