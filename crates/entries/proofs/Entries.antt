@@ -17,7 +17,7 @@ use Rattle.rules.specs.Costs.{no-cost, cost}
 use Rattle.rules.specs.NextHops.{has, chosen, next-hops}
 use Rattle.rules.specs.Entries.{Entry, forward, entry-by, rules-of, entry, code}
 use Rattle.rules.specs.Demand1.{IsAccepted}
-use Rattle.rules.specs.Questions.{refusal, answered, answer, entry-answer}
+use Rattle.rules.specs.Questions.{refusal, answered, answer, bad-numbers, entry-answer}
 use Rattle.rules.proofs.Acceptance.{obeys}
 use Rattle.rules.proofs.Cases.{answered-exactly}
 use Rattle.rules.proofs.Lines.{line-applies, line-passes, no-lines-left, table-bad, table-good}
@@ -27,7 +27,7 @@ use Rattle.rules.proofs.LeastCost.{cost-laws}
 use Rattle.tables.specs.Readings.{outline-of}
 use Rattle.tables.specs.declared.Outline.{Outline}
 use Rattle.webs.specs.declared.Web.{Web}
-use Rattle.webs.specs.Webs.{web-by, laid, web-weight}
+use Rattle.webs.specs.Webs.{web-at, web-weight}
 use Rattle.webs.proofs.Accepted.{accepted-web}
 use Rattle.search.specs.Steps.{cost-at}
 use Rattle.search.specs.Search.{costs-from, hops-over}
@@ -35,7 +35,7 @@ use Rattle.search.proofs.OfTable.{hops-by-costs}
 use Rattle.entries.specs.declared.Entry.{Entry as EntryHere}
 use Rattle.entries.specs.declared.Entry.the-variants.{Deliver, Discard, NoRoute, Forward}
 use Rattle.entries.specs.declared.EntryAnswer.the-variants.{Given, Refused}
-use Rattle.entries.specs.Entries.{entry-told, rules-by, bad-numbers, entry-numbers, Enters}
+use Rattle.entries.specs.Entries.{entry-told, rules-by, entry-numbers, Enters}
 
 -- ---- the four lines, by a set
 
@@ -81,7 +81,7 @@ by-set t o i j d set q = rw q (go (ℕ-discrete i d))
 
 -- the entry over the web of an accepted table
 pub over-web : (table : List ℕ) → IsAccepted table → (t : Outline) → t ≡ outline-of table → (web : Web)
-    → web ≡ web-by (weight-in (laid table (t .start) (t .links)))
+    → web ≡ web-at table t
     → (i j d : ℕ) → d < 64 → (costs : List ℕ) → costs ≡ costs-from (web-weight web) d
     → (set : ℕ) → set ≡ hops-over (web-weight web) (cost-at costs) i
     → (r : Entry) → r ≡ entry-by (rules-by set) i j d → r ≡ entry (says table) i j d
@@ -126,7 +126,7 @@ module _ (table : List ℕ) (i j d : ℕ) where
   module _ (t : Outline) (a : IsAccepted table × (t ≡ outline-of table)) (bad : Bool) (e : bad ≡ bad-numbers (t .routers) i j d) where
     -- only 9 is left to be asked
     asked : entry-answer table i j d ≡ answer (refusal 9 when bad ∷ []) 0 (code (entry (says table) i j d))
-    unfolding entry-answer bad-numbers
+    unfolding entry-answer
     asked = table-good _ _ 0 table _ (a .0) ∙ rw (e, a .1)
 
     pub numbers-refused : bad ≡ true → Enters table i j d (Refused 9 0)

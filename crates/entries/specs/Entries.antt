@@ -1,12 +1,11 @@
 -- An entry by the next-hop set alone, and what the entry question answers, in document 01's numbers.
 use mathlib.Core.Path.{_≡_}
-use mathlib.Core.Bool.{Bool, _&&_, _||_, not}
 use mathlib.Core.List.{List}
 use Prim.Native.Nat.{ℕ}
-use Rattle.rules.specs.Words.{_=?_, _<?_, _≤?_}
+use Rattle.rules.specs.Words.{_<?_}
 use Rattle.rules.specs.Table.{says}
 use Rattle.rules.specs.NextHops.{has, chosen}
-use Rattle.rules.specs.Entries.{Entry, deliver, discard, no-route, forward, starts-here, Rules, entry, code}
+use Rattle.rules.specs.Entries.{Entry, deliver, discard, no-route, forward, Rules, entry, code}
 use Rattle.rules.specs.Questions.{Answer, answered, refused-with, IsNumber, entry-answer}
 use Rattle.entries.specs.declared.Entry.{Entry as EntryHere}
 use Rattle.entries.specs.declared.Entry.the-variants.{Deliver, Discard, NoRoute, Forward}
@@ -27,10 +26,6 @@ unfoldable pub rules-by : ℕ → Rules
 rules-by set = record { has-route = λ i. 0 <? set; discards = λ i j. has set j; hop = λ i j. chosen set }
 
 -- ---- the entry question
-
--- 9, where there are n routers: router, destination or previous hop
-unfoldable pub bad-numbers : ℕ → ℕ → ℕ → ℕ → Bool
-bad-numbers n i j d = n ≤? i || n ≤? d || ((not (j =? starts-here) && n ≤? j) || j =? i)
 
 -- the numbers of each case
 unfoldable pub entry-numbers : EntryAnswer → Answer ℕ

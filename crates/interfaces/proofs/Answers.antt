@@ -18,6 +18,7 @@ use Rattle.rules.proofs.Refusals.{writes, lent-outputs-stay}
 use Rattle.rules.proofs.Outputs.{length-interfaces}
 use Rattle.tables.specs.Readings.{outline-of}
 use Rattle.tables.specs.declared.Outline.{Outline}
+use Rattle.tables.proofs.Asked.{own-routers}
 use Rattle.interfaces.specs.declared.Writing.the-variants.{Written, Refused}
 use Rattle.interfaces.specs.Interfaces.{writing-numbers, Writes}
 
@@ -38,7 +39,7 @@ module _ (table : List ℕ) (i : ℕ) (out : List ℕ) where
 
   module _ (t : Outline) (a : IsAccepted table × (t ≡ outline-of table)) where
     own-n : t .routers ≡ n
-    own-n = ap (λ (t : Outline). t .routers) (a .1)
+    own-n = own-routers table t (a .1)
 
     -- only 9 and 10 are left to be asked
     asked : interfaces-answer table i out ≡ answer (refusal 9 when leb n i ∷ refusal 10 when ltb (length out) ((n + 1) * n) ∷ []) 0 ((n + 1) * n)

@@ -16,26 +16,27 @@ use borrow.Author.Tests.{eq-eqb, ne-eqb}
 use Rattle.rules.specs.Words.{pick, below}
 use Rattle.rules.specs.Layout.{Table, Obeys}
 use Rattle.rules.specs.Table.{says}
-use Rattle.rules.specs.Links.{weight-in}
 use Rattle.rules.specs.NextHops.{has, chosen, next-hops}
 use Rattle.rules.specs.Entries.{starts-here, entry-by, code, cell, row, interfaces}
 use Rattle.rules.specs.Demand1.{IsAccepted}
 use Rattle.rules.proofs.Acceptance.{obeys}
-use Rattle.rules.proofs.Filling.{Filled, all-of-filled}
+use Rattle.rules.proofs.PlaceByPlace.{Filled, all-of-filled}
 use Rattle.rules.proofs.Basics.{values-same, neither, pick-t, pick-f, value-at}
 use Rattle.rules.proofs.Sets.{has-below, empty-sets}
 use Rattle.tables.specs.Readings.{outline-of}
 use Rattle.tables.specs.declared.Outline.{Outline}
+use Rattle.tables.proofs.Asked.{own-routers, few-routers}
+use Rattle.sets.proofs.Members.{nobody}
 use Rattle.sets.proofs.Bits.{has-joined, shifted-down}
 use Rattle.webs.specs.declared.Web.{Web}
-use Rattle.webs.specs.Webs.{web-by, laid, web-weight}
+use Rattle.webs.specs.Webs.{web-at, web-weight}
 use Rattle.webs.proofs.Accepted.{accepted-web}
 use Rattle.search.specs.Search.{sets-from}
 use Rattle.search.proofs.OfTable.{sets-of-table}
 use Rattle.entries.specs.declared.Entry.{Entry}
 use Rattle.entries.specs.Entries.{entry-told, rules-by}
 use Rattle.entries.proofs.Entries.{delivers, cut-off, drops, sends, by-set}
-use Rattle.interfaces.specs.Interfaces.{AreSets, code-by, cell-by, start-codes, code-from, members-of, rows}
+use Rattle.interfaces.specs.Interfaces.{OwnSets, code-by, cell-by, start-codes, code-from, members-of, rows}
 
 -- ---- row 255
 
@@ -58,13 +59,13 @@ code-split : (set i j d : ℕ) → set < 2 ^ 64 → (i ≡ d → set ≡ 0)
 unfolding entry-told
 code-split set i j d b own = go (ℕ-discrete i d) (ℕ-discrete set 0) (has set j) refl
   where
-    nobody : set ≡ 0 → has set j ≡ false
-    nobody e = has-below set 0 j (omega arith) (omega arith)
+    none : set ≡ 0 → has set j ≡ false
+    none e = ap (λ s. has s j) e ∙ nobody j
 
     go : Dec (i ≡ d) → Dec (set ≡ 0) → (t : Bool) → has set j ≡ t
         → pick (has set j) 129 (code (entry-by (rules-by set) i starts-here d)) ≡ code (entry-by (rules-by set) i j d)
-    go (yes e) s t q = pick-f _ _ _ (nobody (own e)) ∙ ap code (sym (delivers set i starts-here d e) ∙ delivers set i j d e)
-    go (no a) (yes s) t q = pick-f _ _ _ (nobody s) ∙ ap code (sym (cut-off set i starts-here d a s) ∙ cut-off set i j d a s)
+    go (yes e) s t q = pick-f _ _ _ (none (own e)) ∙ ap code (sym (delivers set i starts-here d e) ∙ delivers set i j d e)
+    go (no a) (yes s) t q = pick-f _ _ _ (none s) ∙ ap code (sym (cut-off set i starts-here d a s) ∙ cut-off set i j d a s)
     go (no a) (no s) true q = pick-t _ _ _ q ∙ ap code (drops set i j d a s q)
     go (no a) (no s) false q =
         pick-f _ _ _ q
@@ -113,7 +114,7 @@ module _ (sets : List ℕ) (i : ℕ) (codes : List ℕ) (e : codes ≡ start-cod
       ∙ ap (λ k. map (λ d. getD codes d 0) (below k)) (length-take-le n lent (omega arith))
       ∙ values-same _ _ n (λ d b. code-at d (omega arith) ∙ sym (pick-f _ _ _ (ne-eqb i starts-here (omega arith))))
 
-  pub other-row : (n j : ℕ) (row : List ℕ) → n ≤ 64 → AreSets sets i → j ≢ i → row ≡ map (code-from sets codes j) (below n)
+  pub other-row : (n j : ℕ) (row : List ℕ) → n ≤ 64 → OwnSets sets i → j ≢ i → row ≡ map (code-from sets codes j) (below n)
       → row ≡ map (cell-by sets i j) (below n)
   unfolding code-from cell-by code-by
   other-row n j row h s a q = q ∙ values-same _ _ n one
@@ -125,7 +126,7 @@ module _ (sets : List ℕ) (i : ℕ) (codes : List ℕ) (e : codes ≡ start-cod
           ∙ sym (pick-f _ _ _ (ne-eqb i j (λ q. a (sym q))))
 
   -- the row of a previous hop that is in no set is row 255
-  pub same-row : (n j members : ℕ) (row : List ℕ) → n ≤ 64 → AreSets sets i → j ≢ i → members ≡ members-of sets 64 → has members j ≡ false
+  pub same-row : (n j members : ℕ) (row : List ℕ) → n ≤ 64 → OwnSets sets i → j ≢ i → members ≡ members-of sets 64 → has members j ≡ false
       → row ≡ map (λ d. getD codes d 0) (below n) → row ≡ map (cell-by sets i j) (below n)
   unfolding code-from
   same-row n j members row h s a m f q =
@@ -159,16 +160,16 @@ module _ (t : Table) (o : Obeys t) (sets : List ℕ) (i : ℕ) (e : sets ≡ map
 
 -- the rows over the web of an accepted table
 module _ (table : List ℕ) (a : IsAccepted table) (t : Outline) (q : t ≡ outline-of table)
-    (web : Web) (e : web ≡ web-by (weight-in (laid table (t .start) (t .links))))
+    (web : Web) (e : web ≡ web-at table t)
     (i : ℕ) (sets : List ℕ) (f : sets ≡ sets-from (web-weight web) i) where
   own-sets : sets ≡ map (λ d. next-hops (says table) i d) (below 64)
   own-sets = f ∙ sets-of-table (says table) (obeys table a) (web-weight web) (accepted-web table a t q web e) i
 
   own-n : t .routers ≡ says table .routers
-  own-n = ap (λ (t : Outline). t .routers) q
+  own-n = own-routers table t q
 
   pub sets-fit-rows : i < t .routers → (t .routers ≤ 64) × (getD sets i 0 ≡ 0)
-  sets-fit-rows h = (omega (arith, own-n, obeys table a .few-routers), own-empty (says table) (obeys table a) sets i own-sets (omega (arith, own-n)))
+  sets-fit-rows h = (few-routers table a t q, own-empty (says table) (obeys table a) sets i own-sets (omega (arith, own-n)))
 
   pub rows-of-table : (lent out : List ℕ) → out ≡ rows (cell-by sets i) (t .routers) (t .routers) ++ drop ((t .routers + 1) * t .routers) lent
       → out ≡ interfaces (says table) i ++ drop ((t .routers + 1) * t .routers) lent

@@ -31,7 +31,7 @@ Writes table i out r out′ = (writing-numbers r ≡ interfaces-answer table i o
 -- ---- rows by the router's next-hop sets for each destination
 
 -- each set is a 64-bit number, and router i's set for itself is empty
-pub record AreSets (sets : List ℕ) (i : ℕ) : Type 0 where
+pub record OwnSets (sets : List ℕ) (i : ℕ) : Type 0 where
   pub fit : (d : ℕ) → getD sets d 0 < 2 ^ 64
   pub own : getD sets i 0 ≡ 0
 

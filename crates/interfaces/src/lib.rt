@@ -9,7 +9,7 @@ ghost use Rattle.rules.specs.NextHops.{has};
 ghost use Rattle.rules.specs.Entries.{interfaces};
 ghost use Rattle.rules.specs.Demand1.{IsAccepted};
 ghost use Rattle.tables.specs.Readings.{outline-of};
-ghost use Rattle.interfaces.specs.Interfaces.{Writes, AreSets, cell-by, start-codes, code-from, members-of, rows};
+ghost use Rattle.interfaces.specs.Interfaces.{Writes, OwnSets, cell-by, start-codes, code-from, members-of, rows};
 use entries::STARTS_HERE;
 use entries::code;
 use entries::decide;
@@ -118,7 +118,7 @@ fn write_row(
     previous: usize,
     row: &mut [u8],
 )
-    requires { ⌜ AreSets (now sets) router × (members ≡ members-of (now sets) 64) × (now codes ≡ start-codes (now sets) router)
+    requires { ⌜ OwnSets (now sets) router × (members ≡ members-of (now sets) 64) × (now codes ≡ start-codes (now sets) router)
         × (previous < 64) × (length (now row) ≤ 64) ⌝ }
     ensures { λ _. ⌜ now (row .exit) ≡ map (cell-by (now (sets .entry)) router previous) (below (length (now (row .entry)))) ⌝ }
 {

@@ -3,7 +3,6 @@
 use mathlib.Core.Path.{_≡_, _∙_, ap}
 use mathlib.Core.List.{List, _++_, map}
 use Prim.Native.Nat.{ℕ, _≤_, _<_}
-use native.Mathlib.Omega.{arith}
 use lib.ListN.{take, drop}
 use Rattle.rules.specs.Words.{below}
 use Rattle.rules.specs.Table.{says}
@@ -12,18 +11,12 @@ use Rattle.rules.specs.Costs.{cost}
 use Rattle.rules.specs.NextHops.{next-hops}
 use Rattle.rules.specs.Demand1.{IsAccepted}
 use Rattle.rules.proofs.Acceptance.{obeys}
-use Rattle.rules.proofs.Filling.{take-values}
-use Rattle.tables.specs.Readings.{outline-of}
-use Rattle.tables.specs.declared.Outline.{Outline}
+use Rattle.rules.proofs.PlaceByPlace.{take-values}
 use Rattle.webs.specs.Webs.{web-weight}
 use Rattle.webs.specs.declared.Web.{Web}
 use Rattle.search.specs.Search.{costs-from, hops-over}
 use Rattle.search.specs.Steps.{cost-at}
 use Rattle.search.proofs.OfTable.{costs-of-table, hops-by-costs}
-
--- a table's routers are routers of a web
-pub few : (table : List ℕ) → IsAccepted table → (t : Outline) → t ≡ outline-of table → t .routers ≤ 64
-few table a t q = omega (arith, obeys table a .few-routers, ap (λ (o : Outline). o .routers) q)
 
 -- the first n of 64 values
 first-of : (f : ℕ → ℕ) (found lent now : List ℕ) (n : ℕ) → n ≤ 64 → now ≡ take n found ++ drop n lent → found ≡ map f (below 64)

@@ -1,24 +1,22 @@
 -- The next-hop set of a router, made on one walk over the set of those that it is linked to.
 -- Assumes nothing.
-use mathlib.Core.Path.{_≡_, refl, sym, _∙_}
+use mathlib.Core.Path.{_≡_, sym}
 use mathlib.Core.Logic.{_≢_}
 use mathlib.Core.Bool.{Bool, true, false, _&&_}
 use mathlib.Core.List.{List}
 use Prim.Native.Nat.{ℕ, suc, _+_, _-_, _*_, _%_, _^_, _≤_, _<_}
-use native.Mathlib.Nat.{lt-of-lt-of-le, add-comm}
 use native.Mathlib.Omega.{arith}
 use mir.Val.{boolByte}
 use lib.Bits.{bitAnd}
 use lib.Count.{trailingZeros}
 use lib.Dec.{eqb, ltb}
 use lib.ListN.{length, getD, List·getD-eq-default}
-use lib.Pow.{pow-mono}
 use borrow.Author.Tests.{lt-ltb}
 use Rattle.rules.specs.Words.{pick}
 use Rattle.rules.specs.Costs.{no-cost}
-use Rattle.rules.specs.NextHops.{has, set-of}
-use Rattle.rules.proofs.Sets.{set-below, set-none}
-use Rattle.sets.proofs.Walk.{Passed, Turn, setting-out, next-member, at-end, passed-over}
+use Rattle.rules.specs.NextHops.{has}
+use Rattle.rules.proofs.Sets.{set-none}
+use Rattle.sets.proofs.Walk.{Passed, Turn, setting-out, next-member, at-end, Made, none-made, one-made, made-fits, all-made}
 use Rattle.sets.proofs.Members.{nobody, one-bit}
 use Rattle.webs.specs.Webs.{weight-over, IsWeb}
 use Rattle.webs.proofs.Webs.{weight-there, weight-none}
@@ -66,19 +64,15 @@ module _ (near weights costs : List ℕ) (i : ℕ) where
   -- all below p are passed, and the next hops among them are in the set
   pub record Walked (set rest : ℕ) : Type 0 where
     pub p : ℕ
-    pub routers : p ≤ 64
     pub passed : Passed (getD near i 0) rest p
-    pub made : set ≡ set-of hop p
+    pub made : Made hop set p
 
   pub starts : IsWeb near weights → Walked 0 (getD near i 0)
-  unfolding set-of
-  starts h = record { p = 0; routers = omega arith; passed = setting-out (getD near i 0) (h .near-fits i); made = refl }
+  starts h = record { p = 0; passed = setting-out (getD near i 0) (h .near-fits i); made = none-made hop }
 
   pub ends : (set rest : ℕ) → Walked set rest → rest ≡ 0 → set ≡ hops-over (weight-over near weights) (cost-at costs) i
   unfolding hops-over
-  ends set rest w e =
-      w .made
-      ∙ sym (passed-over hop (w .p) 64 (w .routers) (λ k l b. unlinked k (at-end (getD near i 0) rest (w .p) (w .passed) e k l)))
+  ends set rest w e = all-made hop set (w .p) (w .made) (λ k l. unlinked k (at-end (getD near i 0) rest (w .p) (w .passed) e k l))
 
   -- one turn: the next member k, and its bit
   pub record Onward (set rest bit : ℕ) : Type 0 where
@@ -96,15 +90,9 @@ module _ (near weights costs : List ℕ) (i : ℕ) where
     pub onward : AreCosts costs → i < 64 → (r : ℕ)
         → r ≡ bit (trailingZeros 64 rest) (getD weights (64 * i + trailingZeros 64 rest) 0) (getD costs (trailingZeros 64 rest) 0) (getD costs i 0)
         → Onward set rest r
-    unfolding set-of
     onward a h r e = record {
-      walked = record {
-        p = suc k;
-        routers = omega (arith, router);
-        passed = turn .passed;
-        made = made;
-      };
-      fits = omega (arith, made, lt-of-lt-of-le (set-below hop (suc k)) (pow-mono {i = suc k} {j = 64} (omega (arith, router))));
+      walked = record { p = suc k; passed = turn .passed; made = made };
+      fits = made-fits hop (set + r) (suc k) made;
       fewer = turn .fewer;
     }
       where
@@ -114,7 +102,5 @@ module _ (near weights costs : List ℕ) (i : ℕ) where
         same : r ≡ pick (hop k) (2 ^ k) 0
         same = rw (weight-there near weights i k (turn .member), ← as-read costs a k router, ← as-read costs a i h) e
 
-        made : set + r ≡ set-of hop (suc k)
-        made =
-            rw (w .made, same, sym (passed-over hop (w .p) k (turn .beyond) (λ j l m. unlinked j (turn .skipped j l m))))
-            (add-comm (set-of hop k) (pick (hop k) (2 ^ k) 0))
+        made : Made hop (set + r) (suc k)
+        made = one-made hop set (w .p) (w .made) k (turn .beyond) router (λ j l u. unlinked j (turn .skipped j l u)) r same

@@ -1,6 +1,6 @@
 // Next-hop sets over a web, and the fill: costs and sets of one destination.
 ghost use mathlib.Core.Path.{_≡_};
-ghost use mathlib.Core.Bool.{_&&_};
+ghost use mathlib.Core.Bool.{_&&_, _||_};
 ghost use mathlib.Core.List.{_++_, map};
 ghost use Prim.Native.Nat.{_+_, _^_, _<_, _≤_};
 ghost use lib.ListN.{length, take, drop};
@@ -107,6 +107,16 @@ fn fill_accepted(table: &[u8], t: Outline, destination: u8, costs: &mut [u32], s
     hand_over(t.routers as usize, found, hops, costs, sets);
 }
 
+// 10: one of the outputs has fewer than N places.
+fn is_short(costs: usize, sets: usize, routers: usize) -> bool
+    ensures { λ r. ⌜ r ≡ (costs <? routers || sets <? routers) ⌝ }
+{
+    if costs < routers {
+        return true;
+    }
+    sets < routers
+}
+
 // The fill: N costs and N sets of a destination.
 pub fn fill(table: &[u8], destination: u64, costs: &mut [u32], sets: &mut [u64]) -> Filling
     ensures { λ r. ⌜ Fills (now (table .entry)) destination (now (costs .entry)) (now (sets .entry)) r (now (costs .exit)) (now (sets .exit)) ⌝ }
@@ -120,13 +130,7 @@ pub fn fill(table: &[u8], destination: u64, costs: &mut [u32], sets: &mut [u64])
                     place: 0,
                 };
             }
-            if costs.len() < (t.routers as usize) {
-                return Filling::Refused {
-                    number: 10,
-                    place: 0,
-                };
-            }
-            if sets.len() < (t.routers as usize) {
+            if is_short(costs.len(), sets.len(), t.routers as usize) {
                 return Filling::Refused {
                     number: 10,
                     place: 0,

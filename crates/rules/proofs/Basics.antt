@@ -10,7 +10,7 @@ use native.Mathlib.Nat.{sub-zero, zero-sub, suc-sub-suc}
 use native.Mathlib.Decide.{ℕ-discrete}
 use native.Mathlib.Omega.{arith}
 use lib.Dec.{eqb, ltb}
-use lib.ListN.{length, getD, take, drop, length-append, length-map, List·getD-append}
+use lib.ListN.{length, getD, take, drop, replicate, length-append, length-map, List·getD-append, List·getD-eq-default}
 use lib.Seq.{getD-at, take-nil}
 use borrow.Author.Tests.{ltb-true, lt-ltb, le-ltb, eq-eqb, ne-eqb}
 use Rattle.rules.specs.Words.{pick, every, those, tally, below, All, Distinct, Rising}
@@ -174,6 +174,12 @@ any-default [] i d e h = absurd (omega arith)
 any-default (x ∷ xs) zero d e h = refl
 any-default (x ∷ xs) (suc i) d e h = any-default xs i d e (omega arith)
 
+-- a list of one element, again and again, with that element behind its end
+pub same-everywhere : {A : Type 0} (x : A) (n k : ℕ) → getD (replicate n x) k x ≡ x
+same-everywhere x zero k = refl
+same-everywhere x (suc n) zero = refl
+same-everywhere x (suc n) (suc k) = same-everywhere x n k
+
 -- ---- a part of a part
 
 pub drop-take : {A : Type 0} (n m : ℕ) (l : List A) → drop n (take m l) ≡ take (m - n) (drop n l)
@@ -227,6 +233,10 @@ module _ {A : Type 0} (f : ℕ → A) where
       go : Dec (k ≡ n) → (k < n → getD (map f (below n)) k other ≡ f k) → getD (map f (below n) ++ (f n ∷ [])) k other ≡ f k
       go (yes e) ih = rw e (getD-at (map f (below n)) (f n) [] other n (length-values n))
       go (no e) ih = List·getD-append (map f (below n)) (f n ∷ []) other k (omega (arith, length-values n)) ∙ ih (omega arith)
+
+  -- behind the last value
+  pub value-behind : (n k : ℕ) (other : A) → n ≤ k → getD (map f (below n)) k other ≡ other
+  value-behind n k other h = List·getD-eq-default (map f (below n)) other (omega (arith, length-values n))
 
   -- what holds of every value
   pub All-values : (P : A → Type 0) → ((k : ℕ) → P (f k)) → (ks : List ℕ) → All P (map f ks)

@@ -14,7 +14,7 @@ use Rattle.rules.specs.Words.{pick, Line, _when_, first_otherwise_, All}
 use Rattle.rules.specs.Layout.{Table}
 use Rattle.rules.specs.Table.{read, number-of, says}
 use Rattle.rules.specs.Pairs.{differing, too-different}
-use Rattle.rules.specs.Questions.{Refusal, refusal, table-refusal, answer, bad-previous, read-answer, pair-answer, fill-answer, entry-answer, interfaces-answer, few-views, bad-views, path-answer, name-answer, two-names-answer}
+use Rattle.rules.specs.Questions.{Refusal, refusal, table-refusal, answer, bad-previous, bad-numbers, read-answer, pair-answer, fill-answer, entry-answer, interfaces-answer, few-views, bad-views, path-answer, name-answer, two-names-answer}
 use Rattle.rules.specs.Demand1.{Answered, IsAccepted, AnsweredExactly, AcceptedTogether, NumbersInOrder}
 use Rattle.rules.proofs.Basics.{pick-t, pick-f, neither, every-true, true-every}
 
@@ -89,19 +89,19 @@ quiet-or : {P Q : Type 0} (s t : Bool) → (s ≡ false) ↔ P → (t ≡ false)
 quiet-or s t f g = (λ e. let n = neither s t e in (f .0 (n .0), g .0 (n .1)), λ h. rw (f .1 (h .0)) (g .1 (h .1)))
 
 -- a previous hop that is 255 or a router, and not the router asked about
-quiet-previous : (t : Table) (i j : ℕ) → (bad-previous t i j ≡ false) ↔ (((j ≡ 255) ⊎ (j < t .routers)) × (j ≢ i))
-quiet-previous t i j = quiet-or (not (eqb j 255) && leb (t .routers) j) (eqb j i) (out, back) (eqb-false j i, ne-eqb j i)
+quiet-previous : (n i j : ℕ) → (bad-previous n i j ≡ false) ↔ (((j ≡ 255) ⊎ (j < n)) × (j ≢ i))
+quiet-previous n i j = quiet-or (not (eqb j 255) && leb (n) j) (eqb j i) (out, back) (eqb-false j i, ne-eqb j i)
   where
-    out : (not (eqb j 255) && leb (t .routers) j) ≡ false → (j ≡ 255) ⊎ (j < t .routers)
+    out : (not (eqb j 255) && leb (n) j) ≡ false → (j ≡ 255) ⊎ (j < n)
     out e = go (ℕ-discrete j 255)
       where
-        go : Dec (j ≡ 255) → (j ≡ 255) ⊎ (j < t .routers)
+        go : Dec (j ≡ 255) → (j ≡ 255) ⊎ (j < n)
         go (yes q) = inl q
-        go (no q) = inr (leb-false (t .routers) j (rw (ne-eqb j 255 q) at e))
+        go (no q) = inr (leb-false (n) j (rw (ne-eqb j 255 q) at e))
 
-    back : (j ≡ 255) ⊎ (j < t .routers) → (not (eqb j 255) && leb (t .routers) j) ≡ false
+    back : (j ≡ 255) ⊎ (j < n) → (not (eqb j 255) && leb (n) j) ≡ false
     back (inl q) = rw (eq-eqb j 255 q)
-    back (inr q) = rw (lt-leb (t .routers) j q) (last (not (eqb j 255)))
+    back (inr q) = rw (lt-leb (n) j q) (last (not (eqb j 255)))
       where
         last : (b : Bool) → (b && false) ≡ false
         last true = refl
@@ -115,12 +115,10 @@ quiet-room : (n a b : ℕ) → ((ltb a n || ltb b n) ≡ false) ↔ ((n ≤ a) �
 quiet-room n a b = quiet-or (ltb a n) (ltb b n) (quiet-< a n) (quiet-< b n)
 
 -- router, previous hop and destination of an entry
-quiet-entry : (t : Table) (i j d : ℕ)
-    → ((leb (t .routers) i || leb (t .routers) d || bad-previous t i j) ≡ false)
-    ↔ ((i < t .routers) × (d < t .routers) × ((j ≡ 255) ⊎ (j < t .routers)) × (j ≢ i))
-quiet-entry t i j d =
-    let n = t .routers in
-    let r = quiet-or (leb n i || leb n d) (bad-previous t i j) (quiet-routers n n i d) (quiet-previous t i j) in
+quiet-entry : (n i j d : ℕ) → (bad-numbers n i j d ≡ false) ↔ ((i < n) × (d < n) × ((j ≡ 255) ⊎ (j < n)) × (j ≢ i))
+unfolding bad-numbers
+quiet-entry n i j d =
+    let r = quiet-or (leb n i || leb n d) (bad-previous n i j) (quiet-routers n n i d) (quiet-previous n i j) in
     (λ e. let ((a, b), (c, f)) = r .0 e in (a, b, c, f), λ (a, b, c, f). r .1 ((a, b), (c, f)))
 
 -- two tables that go together
@@ -171,7 +169,7 @@ answered-exactly = record {
       (λ (a, (b, (c, z))). (quiet-table 0 table .0 a, leb-false n d b, r .0 c .0, r .0 c .1))
       (λ (a, b, c, z). (quiet-table 0 table .1 a, (lt-leb n d b, (r .1 (c, z), tt))));
   of-entry = λ table i j d.
-      let r = quiet-entry (says table) i j d in
+      let r = quiet-entry (says table .routers) i j d in
       exactly _ _ _ (table-refuses 0 table, (λ e. omega arith, tt))
       (λ (a, (b, z)). let (c, f, g, h) = r .0 b in (quiet-table 0 table .0 a, c, f, g, h))
       (λ (a, c, f, g, h). (quiet-table 0 table .1 a, (r .1 (c, f, g, h), tt)));
@@ -236,7 +234,7 @@ numbers-in-order = record {
   fill-10 = λ table d costs sets a b h.
       let n = says table .routers in
       decided 2 _ _ _ (quiet-table 0 table .1 a, (lt-leb n d b, tt)) (applies _ (quiet-room n (length costs) (length sets)) h);
-  entry-9 = λ table i j d a h. decided 1 _ _ _ (quiet-table 0 table .1 a, tt) (applies _ (quiet-entry (says table) i j d) h);
+  entry-9 = λ table i j d a h. decided 1 _ _ _ (quiet-table 0 table .1 a, tt) (applies _ (quiet-entry (says table .routers) i j d) h);
   interfaces-9 = λ table i out a h. decided 1 _ _ _ (quiet-table 0 table .1 a, tt) (applies _ (quiet-≤ (says table .routers) i) h);
   interfaces-10 = λ table i out a b h.
       let n = says table .routers in

@@ -1,5 +1,5 @@
 pub mod Basics
-pub mod Filling
+pub mod PlaceByPlace
 pub mod Judging
 pub mod Records
 pub mod AtPlace

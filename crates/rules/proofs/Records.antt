@@ -268,7 +268,6 @@ name-fine kept m s f = record {
   few = refl;
 }
 
--- a link passes the test where it fits
 -- a link fits where it passes the test, and passes it where it fits
 pub fits-link : (n : ℕ) (l : Link) → link-fits n l ≡ true → LinkFits n l
 unfolding link-fits

@@ -63,8 +63,8 @@ unfoldable pub afterwards : {A : Type 0} → Answer A → List ℕ → List ℕ 
 afterwards a written lent = pick (a .refusal .number =? 0) (written ++ drop (length written) lent) lent
 
 -- 9: a router number not below N
-abbrev pub bad-router : Table → ℕ → Bool
-bad-router t i = t .routers ≤? i
+abbrev pub bad-router : ℕ → ℕ → Bool
+bad-router n i = n ≤? i
 
 -- ---- reading one table, and two together
 
@@ -95,7 +95,7 @@ pair-answer old new =
 unfoldable pub fill-answer : List ℕ → ℕ → List ℕ → List ℕ → Answer ℕ
 fill-answer table d costs sets =
     let n = says table .routers in
-    answer (table-refusal 0 table ∷ refusal 9 when bad-router (says table) d ∷ refusal 10 when (length costs <? n || length sets <? n) ∷ []) 0 n
+    answer (table-refusal 0 table ∷ refusal 9 when bad-router n d ∷ refusal 10 when (length costs <? n || length sets <? n) ∷ []) 0 n
 
 unfoldable pub costs-after : List ℕ → ℕ → List ℕ → List ℕ → List ℕ
 costs-after table d costs sets =
@@ -117,20 +117,24 @@ chosen-answer set = record { hop = chosen set; size = size set }
 -- ---- the entry of router, previous hop, destination; the answer is its code
 
 -- 9: neither 255 nor a router below N, or the router asked about
-abbrev pub bad-previous : Table → ℕ → ℕ → Bool
-bad-previous t i j = (not (j =? starts-here) && bad-router t j) || j =? i
+abbrev pub bad-previous : ℕ → ℕ → ℕ → Bool
+bad-previous n i j = (not (j =? starts-here) && bad-router n j) || j =? i
+
+-- 9, of an entry: router, destination or previous hop
+unfoldable pub bad-numbers : ℕ → ℕ → ℕ → ℕ → Bool
+bad-numbers n i j d = bad-router n i || bad-router n d || bad-previous n i j
 
 unfoldable pub entry-answer : List ℕ → ℕ → ℕ → ℕ → Answer ℕ
 entry-answer table i j d =
     let t = says table in
-    answer (table-refusal 0 table ∷ refusal 9 when (bad-router t i || bad-router t d || bad-previous t i j) ∷ []) 0 (code (entry t i j d))
+    answer (table-refusal 0 table ∷ refusal 9 when bad-numbers (t .routers) i j d ∷ []) 0 (code (entry t i j d))
 
 -- ---- the full interface table of a router; the answer is the number of bytes written
 
 unfoldable pub interfaces-answer : List ℕ → ℕ → List ℕ → Answer ℕ
 interfaces-answer table i out =
     let n = says table .routers in
-    answer (table-refusal 0 table ∷ refusal 9 when bad-router (says table) i ∷ refusal 10 when (length out <? (n + 1) * n) ∷ []) 0 ((n + 1) * n)
+    answer (table-refusal 0 table ∷ refusal 9 when bad-router n i ∷ refusal 10 when (length out <? (n + 1) * n) ∷ []) 0 ((n + 1) * n)
 
 unfoldable pub interfaces-after : List ℕ → ℕ → List ℕ → List ℕ
 interfaces-after table i out = afterwards (interfaces-answer table i out) (interfaces (says table) i) out
@@ -165,7 +169,7 @@ path-refusals old new s d views trace =
     table-refusal 0 old
     ∷ table-refusal 1 new
     ∷ refusal 8 when too-different (says old) t
-    ∷ refusal 9 when (bad-router t s || bad-router t d)
+    ∷ refusal 9 when (bad-router (t .routers) s || bad-router (t .routers) d)
     ∷ refusal 11 when bad-views t views
     ∷ refusal 10 when (length trace <? t .routers)
     ∷ []
@@ -183,7 +187,7 @@ abbrev pub name-for : List ℕ → ℕ → Option Name
 name-for table i = name-in (says table .names) i
 
 unfoldable pub name-answer : List ℕ → ℕ → Answer ℕ
-name-answer table i = answer (table-refusal 0 table ∷ refusal 9 when bad-router (says table) i ∷ []) 0 (named (name-for table i))
+name-answer table i = answer (table-refusal 0 table ∷ refusal 9 when bad-router (says table .routers) i ∷ []) 0 (named (name-for table i))
 
 -- no name, or a refusal: the empty part at the end of the table
 unfoldable pub name-part : List ℕ → ℕ → Part
@@ -192,7 +196,7 @@ name-part table i = pick (name-answer table i .refusal .number =? 0) (part-or 0 
 -- whether there is a name, in the new table or else in the old
 unfoldable pub two-names-answer : List ℕ → List ℕ → ℕ → Answer ℕ
 two-names-answer old new i =
-    answer (table-refusal 0 old ∷ table-refusal 1 new ∷ refusal 9 when (bad-router (says old) i || bad-router (says new) i) ∷ [])
+    answer (table-refusal 0 old ∷ table-refusal 1 new ∷ refusal 9 when (bad-router (says old .routers) i || bad-router (says new .routers) i) ∷ [])
     0
     (named (or-else (name-for new i) (name-for old i)))
 

@@ -1,4 +1,4 @@
--- Sets as numbers, changed: a member taken out, two sets joined, the lowest member taken out by `set & (set - 1)`.
+-- Sets as numbers, changed: a member taken out, two sets joined, what two sets have in common, the lowest member taken out by `set & (set - 1)`.
 -- Assumes nothing.
 use mathlib.Core.Path.{_≡_, refl, sym, _∙_, ap}
 use mathlib.Core.Logic.{_≢_}
@@ -7,7 +7,7 @@ use Prim.Native.Nat.{ℕ, zero, suc, _+_, _-_, _/_, _%_, _^_, _≤_, _<_, min, m
 use native.Mathlib.Nat.{pow-suc}
 use native.Mathlib.Omega.{arith}
 use lib.Dec.{eqb}
-use lib.Bits.{bitAnd, bitOr, and-step, or-step, and-self, and-mask}
+use lib.Bits.{bitAnd, bitOr, and-step, or-step, and-shr, or-shr, and-self, and-mask}
 use lib.Count as C
 use lib.Count.{trailingZeros}
 use Rattle.rules.specs.Words.{pick}
@@ -62,42 +62,34 @@ others-stay (suc k) set (suc j) e a =
 
 -- ---- two sets joined
 
-pub has-joined : (k a b : ℕ) → has (bitOr a b) k ≡ (has a k || has b k)
-has-joined zero a b = go (has a 0) refl (has b 0) refl
+-- two lowest digits, joined or in common
+digits : (x y : ℕ) → (eqb (bitOr x y % 2) 1 ≡ (eqb (x % 2) 1 || eqb (y % 2) 1)) × (eqb (bitAnd x y % 2) 1 ≡ (eqb (x % 2) 1 && eqb (y % 2) 1))
+digits x y = go (x % 2) (y % 2) refl refl
   where
-    go : (s : Bool) → has a 0 ≡ s → (t : Bool) → has b 0 ≡ t → has (bitOr a b) 0 ≡ (has a 0 || has b 0)
-    go s p t q =
-        let d : bitOr a b % 2 ≡ max (pick s 1 0) (pick t 1 0) = omega (arith, or-step a b, digit a s p, digit b t q) in
-        rw (p, q) (lowest-digit (bitOr a b) ∙ ap (λ n. eqb n 1) d ∙ low s t)
+    go : (c d : ℕ) → x % 2 ≡ c → y % 2 ≡ d → (eqb (bitOr x y % 2) 1 ≡ (eqb c 1 || eqb d 1)) × (eqb (bitAnd x y % 2) 1 ≡ (eqb c 1 && eqb d 1))
+    go c d p q =
+        let o : bitOr x y % 2 ≡ max c d = omega (arith, or-step x y) in
+        let n : bitAnd x y % 2 ≡ min c d = omega (arith, and-step x y) in
+        let s = low c d (omega arith) (omega arith) in
+        (ap (λ n. eqb n 1) o ∙ s .0, ap (λ n. eqb n 1) n ∙ s .1)
       where
-        low : (s t : Bool) → eqb (max (pick s 1 0) (pick t 1 0)) 1 ≡ (s || t)
-        low true true = refl
-        low true false = refl
-        low false true = refl
-        low false false = refl
-has-joined (suc k) a b =
-    let h : bitOr a b / 2 ≡ bitOr (a / 2) (b / 2) = omega (arith, or-step a b) in
-    half (bitOr a b) k ∙ ap (λ n. has n k) h ∙ has-joined k (a / 2) (b / 2) ∙ rw (half a k, half b k)
+        low : (c d : ℕ) → c < 2 → d < 2 → (eqb (max c d) 1 ≡ (eqb c 1 || eqb d 1)) × (eqb (min c d) 1 ≡ (eqb c 1 && eqb d 1))
+        low zero zero p q = (refl, refl)
+        low zero (suc zero) p q = (refl, refl)
+        low (suc zero) zero p q = (refl, refl)
+        low (suc zero) (suc zero) p q = (refl, refl)
+        low (suc (suc c)) d p q = absurd (omega arith)
+        low zero (suc (suc d)) p q = absurd (omega arith)
+        low (suc zero) (suc (suc d)) p q = absurd (omega arith)
+
+pub has-joined : (k a b : ℕ) → has (bitOr a b) k ≡ (has a k || has b k)
+unfolding has
+has-joined k a b = ap (λ n. eqb (n % 2) 1) (or-shr a b k) ∙ digits (a / 2 ^ k) (b / 2 ^ k) .0
 
 -- the members that two sets have in common
 pub has-met : (k a b : ℕ) → has (bitAnd a b) k ≡ (has a k && has b k)
-has-met zero a b =
-    lowest-digit (bitAnd a b) ∙ ap (λ n. eqb n 1) low ∙ go (a % 2) (b % 2) refl refl ∙ rw (lowest-digit a, lowest-digit b)
-  where
-    low : bitAnd a b % 2 ≡ min (a % 2) (b % 2)
-    low = omega (arith, and-step a b)
-
-    go : (x y : ℕ) → a % 2 ≡ x → b % 2 ≡ y → eqb (min x y) 1 ≡ (eqb x 1 && eqb y 1)
-    go zero zero p q = refl
-    go zero (suc zero) p q = refl
-    go zero (suc (suc y)) p q = absurd (omega arith)
-    go (suc zero) zero p q = refl
-    go (suc zero) (suc zero) p q = refl
-    go (suc zero) (suc (suc y)) p q = absurd (omega arith)
-    go (suc (suc x)) y p q = absurd (omega arith)
-has-met (suc k) a b =
-    let h : bitAnd a b / 2 ≡ bitAnd (a / 2) (b / 2) = omega (arith, and-step a b) in
-    half (bitAnd a b) k ∙ ap (λ n. has n k) h ∙ has-met k (a / 2) (b / 2) ∙ rw (half a k, half b k)
+unfolding has
+has-met k a b = ap (λ n. eqb (n % 2) 1) (and-shr a b k) ∙ digits (a / 2 ^ k) (b / 2 ^ k) .1
 
 -- ---- the lowest member taken out
 

@@ -5,18 +5,18 @@ use mathlib.Core.Logic.{_≢_}
 use mathlib.Core.Bool.{Bool, true, false, false≢true}
 use mathlib.Core.List.{List, map}
 use Prim.Native.Nat.{ℕ, zero, suc, _+_, _-_, _^_, _≤_, _<_}
-use native.Mathlib.Nat.{zero-add}
+use native.Mathlib.Nat.{zero-add, lt-of-lt-of-le}
 use native.Mathlib.Decide.{ℕ-discrete, decLt}
 use native.Mathlib.Omega.{arith}
 use lib.Bits.{bitAnd}
 use lib.Count.{trailingZeros}
 use lib.ListN.{length, getD}
-use lib.Pow.{pow-pos}
+use lib.Pow.{pow-mono, pow-pos}
 use lib.Seq.{ext-getD}
 use Rattle.rules.specs.Words.{pick, below}
 use Rattle.rules.specs.NextHops.{has, set-of}
 use Rattle.rules.proofs.Basics.{length-values, value-at}
-use Rattle.rules.proofs.Sets.{member-below, trailing}
+use Rattle.rules.proofs.Sets.{set-below, member-below, trailing}
 use Rattle.sets.proofs.Bits.{lowest-out, taken-out, others-stay}
 use Rattle.sets.proofs.Members.{nobody}
 
@@ -106,6 +106,28 @@ passed-over q p (suc n) h f = go (ℕ-discrete p (suc n)) (passed-over q p n)
     go : Dec (p ≡ suc n) → (p ≤ n → ((j : ℕ) → p ≤ j → j < n → q j ≡ false) → set-of q n ≡ set-of q p) → set-of q (suc n) ≡ set-of q p
     go (yes e) ih = ap (set-of q) (sym e)
     go (no a) ih = ap (λ t. pick t (2 ^ n) 0 + set-of q n) (f n (omega arith) (omega arith)) ∙ zero-add (set-of q n) ∙ ih (omega arith) (λ j l m. f j l (omega arith))
+
+-- the routers below p that pass a test are in the set
+pub record Made (q : ℕ → Bool) (made p : ℕ) : Type 0 where
+  pub routers : p ≤ 64
+  pub so-far : made ≡ set-of q p
+
+module _ (q : ℕ → Bool) where
+  pub none-made : Made q 0 0
+  unfolding set-of
+  none-made = record { routers = omega arith; so-far = refl }
+
+  module _ (made p : ℕ) (m : Made q made p) where
+    pub made-fits : made < 2 ^ 64
+    made-fits = rw (m .so-far) (lt-of-lt-of-le (set-below q p) (pow-mono (m .routers)))
+
+    -- one more: its bit, if it passes
+    pub one-made : (k : ℕ) → p ≤ k → k < 64 → ((j : ℕ) → p ≤ j → j < k → q j ≡ false) → (r : ℕ) → r ≡ pick (q k) (2 ^ k) 0 → Made q (made + r) (suc k)
+    unfolding set-of
+    one-made k h l skipped r e = record { routers = l; so-far = omega (arith, e, m .so-far, passed-over q p k h skipped) }
+
+    pub all-made : ((j : ℕ) → p ≤ j → q j ≡ false) → made ≡ set-of q 64
+    all-made over = m .so-far ∙ sym (passed-over q p 64 (m .routers) (λ j l u. over j l))
 
 -- ---- an array that is changed on the way
 

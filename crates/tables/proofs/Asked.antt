@@ -11,6 +11,7 @@ use Rattle.rules.specs.Layout.{Table}
 use Rattle.rules.specs.Table.{Record, Judged, accepted, refused, judge, nothing-behind, read, number-of, place-of, records-of, table-of, says}
 use Rattle.rules.specs.Demand1.{IsAccepted}
 use Rattle.rules.specs.Questions.{refusal, of-table, answered, Reading, read-answer}
+use Rattle.rules.proofs.Acceptance.{obeys}
 use Rattle.rules.proofs.Basics.{pick-t, pick-f}
 use Rattle.rules.proofs.Judging.{judge-judges}
 use Rattle.rules.proofs.Lines.{no-lines-left, table-bad, table-good}
@@ -149,3 +150,10 @@ module _ (bytes : List ℕ) where
     where
       q : Reads bytes (Refused number place)
       q = subst (Reads bytes) e p
+
+  -- the outline's routers are the table's, 64 at most
+  pub own-routers : (t : Outline) → t ≡ outline-of bytes → t .routers ≡ says bytes .routers
+  own-routers t q = ap (λ (o : Outline). o .routers) q
+
+  pub few-routers : IsAccepted bytes → (t : Outline) → t ≡ outline-of bytes → t .routers ≤ 64
+  few-routers a t q = omega (arith, own-routers t q, obeys bytes a .few-routers)

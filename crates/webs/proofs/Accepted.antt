@@ -24,7 +24,7 @@ use Rattle.tables.specs.declared.Outline.{Outline}
 use Rattle.links.specs.Links.{link-at}
 use Rattle.links.proofs.Stand.{link-by-number}
 use Rattle.webs.specs.declared.Web.{Web}
-use Rattle.webs.specs.Webs.{web-weight, web-by, laid}
+use Rattle.webs.specs.Webs.{web-weight, web-by, web-at, laid}
 use Rattle.webs.proofs.Webs.{web-is}
 use Rattle.webs.proofs.Laying.{next-laid}
 
@@ -127,7 +127,8 @@ module _ (bytes : List ℕ) (e : IsAccepted bytes) where
 
 -- the web of an accepted table's links says the table's weights
 pub accepted-web : (bytes : List ℕ) → IsAccepted bytes → (t : Outline) → t ≡ outline-of bytes
-    → (web : Web) → web ≡ web-by (weight-in (laid bytes (t .start) (t .links))) → web-weight web ≡ weight (says bytes)
+    → (web : Web) → web ≡ web-at bytes t → web-weight web ≡ weight (says bytes)
+unfolding web-at
 accepted-web bytes e t q web p =
     ap web-weight p
     ∙ ap (λ (o : Outline). web-weight (web-by (weight-in (laid bytes (o .start) (o .links))))) q

@@ -7,7 +7,7 @@ use Rattle.rules.specs.Links.{weight-in}
 use Rattle.rules.specs.Promises.{Settles}
 use Rattle.rules.proofs.Uniqueness.{value-settled}
 use Rattle.tables.specs.declared.Outline.{Outline}
-use Rattle.webs.specs.Webs.{web-by, laid}
+use Rattle.webs.specs.Webs.{web-at}
 
-pub web-of-settled : (bytes : List ℕ) (t : Outline) → Settles (λ r. r ≡ web-by (weight-in (laid bytes (t .start) (t .links))))
-web-of-settled bytes t = value-settled (web-by (weight-in (laid bytes (t .start) (t .links))))
+pub web-of-settled : (bytes : List ℕ) (t : Outline) → Settles (λ r. r ≡ web-at bytes t)
+web-of-settled bytes t = value-settled (web-at bytes t)

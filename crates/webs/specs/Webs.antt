@@ -7,7 +7,9 @@ use lib.ListN.{length, getD, set}
 use Rattle.rules.specs.Words.{_<?_, pick, below}
 use Rattle.rules.specs.Layout.{Link}
 use Rattle.rules.specs.Table.{link-fits}
+use Rattle.rules.specs.Links.{weight-in}
 use Rattle.rules.specs.NextHops.{has, set-of}
+use Rattle.tables.specs.declared.Outline.{Outline}
 use Rattle.links.specs.Links.{link-at}
 use Rattle.webs.specs.declared.Web.{Web}
 
@@ -42,6 +44,10 @@ laid bytes start (suc n) =
 -- a link by its three numbers
 abbrev pub link : ℕ → ℕ → ℕ → Link
 link a b weight = record { a = a; b = b; weight = weight }
+
+-- the web of the links that an outline tells of
+unfoldable pub web-at : List ℕ → Outline → Web
+web-at table t = web-by (weight-in (laid table (t .start) (t .links)))
 
 -- the two arrays with one more link; one that does not fit changes nothing
 unfoldable pub near-with : Link → List ℕ → List ℕ

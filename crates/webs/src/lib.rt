@@ -3,7 +3,7 @@ ghost use mathlib.Core.Path.{_≡_};
 ghost use lib.ListN.{replicate};
 ghost use Rattle.rules.specs.Links.{weight-in};
 ghost use Rattle.links.specs.Links.{next-numbers};
-ghost use Rattle.webs.specs.Webs.{web-by, laid, link, near-with, weights-with};
+ghost use Rattle.webs.specs.Webs.{web-at, link, near-with, weights-with};
 use links::NextLink;
 use links::link_by_number;
 use sets::no_sets;
@@ -64,14 +64,14 @@ fn lay_told(near: &mut [u64; 64], weights: &mut [u16; 4096], next: NextLink)
 }
 
 // The web of the links that an outline tells of.
-pub fn web_of(table: &[u8], links: Outline) -> Web
-    ensures { λ r. ⌜ r ≡ web-by (weight-in (laid (now (table .entry)) (links .start) (links .links))) ⌝ }
+pub fn web_of(table: &[u8], t: Outline) -> Web
+    ensures { λ r. ⌜ r ≡ web-at (now (table .entry)) t ⌝ }
 {
     let mut near = no_sets();
     let mut weights = no_weights();
     let mut i = 0;
-    while i < links.links {
-        let next = link_by_number(table, links.start, i);
+    while i < t.links {
+        let next = link_by_number(table, t.start, i);
         lay_told(&mut near, &mut weights, next);
         i += 1;
     }

@@ -5,7 +5,7 @@ use native.Mathlib.Omega.{arith}
 use lib.ListN.{length, length-set}
 use borrow.Author.Needs.{needs}
 use Rattle.rules.specs.Entries.{starts-here}
-use Rattle.rules.proofs.Filling.{Filled, none-filled, one-filled}
+use Rattle.rules.proofs.PlaceByPlace.{Filled, none-filled, one-filled}
 use Rattle.interfaces.specs.Interfaces.{code-by}
 use Rattle.interfaces.proofs.Cells.{start-code, whole-codes}
 use Rattle.interfaces.proofs.start_codes.Statement.{statement}

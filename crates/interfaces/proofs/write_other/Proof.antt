@@ -3,7 +3,7 @@
 use Prim.Native.Nat.{_-_}
 use native.Mathlib.Omega.{arith}
 use lib.ListN.{length, length-set}
-use Rattle.rules.proofs.Filling.{Filled, none-filled, one-filled, all-filled}
+use Rattle.rules.proofs.PlaceByPlace.{Filled, none-filled, one-filled, all-filled}
 use Rattle.interfaces.specs.Interfaces.{code-from}
 use Rattle.interfaces.proofs.write_other.Statement.{statement}
 use Rattle.interfaces.proofs.write_other.Tie as tie

@@ -1,5 +1,6 @@
 -- `interfaces::write_row` meets its contract.
 -- Assumes nothing.
+use native.Mathlib.Omega.{arith}
 use borrow.Author.Needs.{needs}
 use Rattle.interfaces.proofs.Cells.{own-row, same-row, other-row, no-member}
 use Rattle.interfaces.proofs.write_row.Statement.{statement}
@@ -12,7 +13,7 @@ same-length : tie.Need-same-length
 same-length c = search needs
 
 returns : tie.Need-returns
-returns c = own-row _ _ _ _ _ (c .before .before .before .before .if1 .taken) (c .before .before .write-own .ensures)
+returns c = own-row _ _ _ _ _ (omega arith) (c .before .before .write-own .ensures)
 
 shr-if2 : tie.Need-shr-if2
 shr-if2 c = search needs

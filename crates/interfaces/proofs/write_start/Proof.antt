@@ -4,7 +4,7 @@ use mathlib.Core.Path.{refl}
 use Prim.Native.Nat.{_-_}
 use native.Mathlib.Omega.{arith}
 use lib.ListN.{length, getD, length-set}
-use Rattle.rules.proofs.Filling.{Filled, none-filled, one-filled, all-filled}
+use Rattle.rules.proofs.PlaceByPlace.{Filled, none-filled, one-filled, all-filled}
 use Rattle.interfaces.proofs.write_start.Statement.{statement}
 use Rattle.interfaces.proofs.write_start.Tie as tie
 

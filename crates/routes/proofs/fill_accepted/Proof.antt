@@ -2,8 +2,9 @@
 -- Assumes nothing.
 use native.Mathlib.Omega.{arith}
 use borrow.Author.Needs.{needs}
+use Rattle.tables.proofs.Asked.{few-routers}
 use Rattle.webs.proofs.Accepted.{accepted-web}
-use Rattle.routes.proofs.Found.{few, found-costs, found-sets}
+use Rattle.routes.proofs.Found.{found-costs, found-sets}
 use Rattle.routes.proofs.fill_accepted.Statement.{statement}
 use Rattle.routes.proofs.fill_accepted.Tie as tie
 
@@ -22,7 +23,7 @@ cast-hand-over c = search needs
 hand-over-requires : tie.Need-hand-over-requires
 hand-over-requires c κs =
     let p = c .before .before .before .before .before .before .before .before .before .pre in
-    (few _ (p .0) _ (p .1), p .3, p .4)
+    (few-routers _ (p .0) _ (p .1), p .3, p .4)
 
 same-length : tie.Need-same-length
 same-length c = search needs
@@ -36,7 +37,7 @@ returns c =
     let p = m .before .before .before .before .before .before .pre in
     let h = c .before .before .before .before .hand-over .ensures in
     let w = accepted-web _ (p .0) _ (p .1) _ (m .before .before .web-of .ensures) in
-    let n = few _ (p .0) _ (p .1) in
+    let n = few-routers _ (p .0) _ (p .1) in
     let f = m .before .costs-from .ensures in
     (found-costs _ (p .0) _ w _ _ n _ f _ _ (h .0), found-sets _ (p .0) _ w _ _ n _ f _ _ (omega (arith, p .2, n)) _ (m .sets-by .ensures) (h .1))
 

@@ -5,7 +5,7 @@ use Prim.Native.Nat.{_-_, _≤_}
 use native.Mathlib.Omega.{arith}
 use lib.ListN.{length, getD}
 use borrow.Author.Needs.{needs}
-use Rattle.rules.proofs.Filling.{Filled, none-filled, one-filled, first-filled}
+use Rattle.rules.proofs.PlaceByPlace.{Filled, none-filled, one-filled, first-filled}
 use Rattle.routes.proofs.hand_over.Statement.{statement}
 use Rattle.routes.proofs.hand_over.Tie as tie
 

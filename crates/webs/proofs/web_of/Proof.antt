@@ -3,15 +3,16 @@
 use Prim.Native.Nat.{_-_, _≤_}
 use native.Mathlib.Omega.{arith}
 use borrow.Author.Needs.{needs}
+use Rattle.webs.specs.Webs.{web-at}
 use Rattle.webs.proofs.Laying.{Laid, none-laid, more-laid, all-laid}
 use Rattle.webs.proofs.web_of.Statement.{statement}
 use Rattle.webs.proofs.web_of.Tie as tie
 
 abbrev Inv-loop : tie.InvT-loop
-Inv-loop table links near₀ weights₀ i₀ near weights i = (i ≤ links .links) × Laid table (links .start) i near weights
+Inv-loop table t near₀ weights₀ i₀ near weights i = (i ≤ t .links) × Laid table (t .start) i near weights
 
 abbrev μ-loop : tie.MeasureT-loop
-μ-loop table links near₀ weights₀ i₀ near weights i = links .links - i
+μ-loop table t near₀ weights₀ i₀ near weights i = t .links - i
 
 no-sets-requires : tie.Need-no-sets-requires Inv-loop μ-loop
 no-sets-requires c κs = search needs
@@ -42,6 +43,7 @@ loop-again c =
     )
 
 returns : tie.Need-returns Inv-loop μ-loop
+unfolding web-at
 returns c = all-laid _ _ _ _ _ _ (c .before .before .loop .inv .1) (omega arith)
 
 pub web-of-spec : {M : Type 1} → statement M
