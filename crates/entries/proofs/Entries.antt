@@ -12,7 +12,6 @@ use borrow.Author.Tests.{lt-ltb, le-ltb, le-leb, lt-leb, eq-eqb, ne-eqb}
 use Rattle.rules.specs.Words.{_when_}
 use Rattle.rules.specs.Layout.{Table, Obeys}
 use Rattle.rules.specs.Table.{read, number-of, place-of, says}
-use Rattle.rules.specs.Links.{weight-in}
 use Rattle.rules.specs.Costs.{no-cost, cost}
 use Rattle.rules.specs.NextHops.{has, chosen, next-hops}
 use Rattle.rules.specs.Entries.{Entry, forward, entry-by, rules-of, entry, code}
@@ -28,10 +27,9 @@ use Rattle.tables.specs.Readings.{outline-of}
 use Rattle.tables.specs.declared.Outline.{Outline}
 use Rattle.webs.specs.declared.Web.{Web}
 use Rattle.webs.specs.Webs.{web-at, web-weight}
-use Rattle.webs.proofs.Accepted.{accepted-web}
 use Rattle.search.specs.Steps.{cost-at}
 use Rattle.search.specs.Search.{costs-from, hops-over}
-use Rattle.search.proofs.OfTable.{hops-by-costs}
+use Rattle.search.proofs.OfTable.{found-hops}
 use Rattle.entries.specs.declared.Entry.{Entry as EntryHere}
 use Rattle.entries.specs.declared.Entry.the-variants.{Deliver, Discard, NoRoute, Forward}
 use Rattle.entries.specs.declared.EntryAnswer.the-variants.{Given, Refused}
@@ -86,8 +84,7 @@ pub over-web : (table : List ℕ) → IsAccepted table → (t : Outline) → t �
     → (set : ℕ) → set ≡ hops-over (web-weight web) (cost-at costs) i
     → (r : Entry) → r ≡ entry-by (rules-by set) i j d → r ≡ entry (says table) i j d
 over-web table a t q web e i j d b costs f set g r h =
-    let w = accepted-web table a t q web e in
-    h ∙ by-set (says table) (obeys table a) i j d set (g ∙ hops-by-costs (says table) (obeys table a) (web-weight web) w costs d b f i)
+    h ∙ by-set (says table) (obeys table a) i j d set (g ∙ found-hops table a t q web e costs d b f i)
 
 -- ---- number 9
 

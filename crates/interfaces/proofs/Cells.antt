@@ -30,9 +30,8 @@ use Rattle.sets.proofs.Members.{nobody}
 use Rattle.sets.proofs.Bits.{has-joined, shifted-down}
 use Rattle.webs.specs.declared.Web.{Web}
 use Rattle.webs.specs.Webs.{web-at, web-weight}
-use Rattle.webs.proofs.Accepted.{accepted-web}
 use Rattle.search.specs.Search.{sets-from}
-use Rattle.search.proofs.OfTable.{sets-of-table}
+use Rattle.search.proofs.OfTable.{found-sets}
 use Rattle.entries.specs.declared.Entry.{Entry}
 use Rattle.entries.specs.Entries.{entry-told, rules-by}
 use Rattle.entries.proofs.Entries.{delivers, cut-off, drops, sends, by-set}
@@ -144,9 +143,9 @@ rows-same : (f g : ℕ → ℕ → ℕ) (n m : ℕ) → ((j d : ℕ) → d < n �
 unfolding rows
 rows-same f g n m h = ap (λ (r : ℕ → List ℕ). flatten (map r (starts-here ∷ below m))) (λ z j. values-same (f j) (g j) n (h j) z)
 
-module _ (t : Table) (o : Obeys t) (sets : List ℕ) (i : ℕ) (e : sets ≡ map (λ d. next-hops t i d) (below 64)) where
+module _ (t : Table) (o : Obeys t) (sets : List ℕ) (i : ℕ) (e : sets ≡ map (next-hops t i) (below 64)) where
   set-at : (d : ℕ) → d < 64 → getD sets d 0 ≡ next-hops t i d
-  set-at d h = ap (λ l. getD l d 0) e ∙ value-at (λ d. next-hops t i d) 64 d 0 h
+  set-at d h = ap (λ l. getD l d 0) e ∙ value-at (next-hops t i) 64 d 0 h
 
   pub own-empty : i < t .routers → getD sets i 0 ≡ 0
   own-empty h = set-at i (omega (arith, o .few-routers)) ∙ empty-sets t o i i .1 (inl refl)
@@ -162,8 +161,8 @@ module _ (t : Table) (o : Obeys t) (sets : List ℕ) (i : ℕ) (e : sets ≡ map
 module _ (table : List ℕ) (a : IsAccepted table) (t : Outline) (q : t ≡ outline-of table)
     (web : Web) (e : web ≡ web-at table t)
     (i : ℕ) (sets : List ℕ) (f : sets ≡ sets-from (web-weight web) i) where
-  own-sets : sets ≡ map (λ d. next-hops (says table) i d) (below 64)
-  own-sets = f ∙ sets-of-table (says table) (obeys table a) (web-weight web) (accepted-web table a t q web e) i
+  own-sets : sets ≡ map (next-hops (says table) i) (below 64)
+  own-sets = f ∙ found-sets table a t q web e i
 
   own-n : t .routers ≡ says table .routers
   own-n = own-routers table t q

@@ -1,4 +1,4 @@
--- What is found over a table's weights: the table's own costs and next-hop sets.
+-- What is found over a table's weights, and over the web of an accepted table: its own costs and next-hop sets.
 -- Assumes nothing.
 use mathlib.Core.Path.{_≡_, sym, _∙_, ap}
 use mathlib.Core.Bool.{false, _&&_}
@@ -7,17 +7,24 @@ use Prim.Native.Nat.{ℕ, _+_, _≤_, _<_}
 use native.Mathlib.Decide.{decLt}
 use native.Mathlib.Omega.{arith}
 use lib.Dec.{eqb, ltb}
-use lib.ListN.{List·getD-eq-default}
 use borrow.Author.Tests.{le-ltb}
 use Rattle.rules.specs.Words.{below}
 use Rattle.rules.specs.Layout.{Table, Obeys}
 use Rattle.rules.specs.Links.{weight}
 use Rattle.rules.specs.Costs.{best, cost, no-cost}
 use Rattle.rules.specs.NextHops.{set-of, leads, next-hops}
-use Rattle.rules.proofs.Basics.{length-values, value-at}
+use Rattle.rules.proofs.Basics.{value-at, value-behind}
 use Rattle.rules.proofs.Weights.{net, wide}
 use Rattle.rules.proofs.LeastCost.{best-routers, cost-laws, costs-hold-both-ways}
+use Rattle.rules.specs.Table.{says}
+use Rattle.rules.specs.Demand1.{IsAccepted}
+use Rattle.rules.proofs.Acceptance.{obeys}
+use Rattle.tables.specs.Readings.{outline-of}
+use Rattle.tables.specs.declared.Outline.{Outline}
 use Rattle.sets.proofs.Walk.{passed-over}
+use Rattle.webs.specs.Webs.{web-weight, web-at}
+use Rattle.webs.specs.declared.Web.{Web}
+use Rattle.webs.proofs.Accepted.{accepted-web}
 use Rattle.search.specs.Search.{costs-from, hops-over, sets-from}
 use Rattle.search.specs.Steps.{cost-at}
 
@@ -38,14 +45,14 @@ module _ (t : Table) (o : Obeys t) where
 
   module _ (w : ℕ → ℕ → ℕ) (q : w ≡ weight t) where
     -- the costs from a destination are the costs to it
-    pub costs-of-table : (d : ℕ) → costs-from w d ≡ map (λ i. cost t i d) (below 64)
+    costs-of-table : (d : ℕ) → costs-from w d ≡ map (λ i. cost t i d) (below 64)
     unfolding costs-from
     costs-of-table d =
         ap (λ (v : ℕ → ℕ → ℕ). map (best v 64 d) (below 64)) q
         ∙ ap (λ (f : ℕ → ℕ). map f (below 64)) (λ j i. (cost-over d i ∙ costs-hold-both-ways t o d i) j)
 
     -- the next-hop set of a router, by the costs to a destination
-    pub hops-of-table : (c : ℕ → ℕ) (i d : ℕ) → ((k : ℕ) → c k ≡ cost t k d) → hops-over w c i ≡ next-hops t i d
+    hops-of-table : (c : ℕ → ℕ) (i d : ℕ) → ((k : ℕ) → c k ≡ cost t k d) → hops-over w c i ≡ next-hops t i d
     unfolding hops-over next-hops leads
     hops-of-table c i d e =
         ap (λ (v : ℕ → ℕ → ℕ). set-of (λ k. ltb 0 (v i k) && eqb (v i k + c k) (c i)) 64) q
@@ -60,17 +67,35 @@ module _ (t : Table) (o : Obeys t) where
             none (no l) = omega arith
 
     -- the same where the costs stand in an array
-    pub hops-by-costs : (costs : List ℕ) (d : ℕ) → d < 64 → costs ≡ costs-from w d → (i : ℕ) → hops-over w (cost-at costs) i ≡ next-hops t i d
+    hops-by-costs : (costs : List ℕ) (d : ℕ) → d < 64 → costs ≡ costs-from w d → (i : ℕ) → hops-over w (cost-at costs) i ≡ next-hops t i d
     hops-by-costs costs d b e i = hops-of-table (cost-at costs) i d (λ k. ap (λ l. cost-at l k) (e ∙ costs-of-table d) ∙ go k (decLt k 64))
       where
         go : (k : ℕ) → Dec (k < 64) → cost-at (map (λ i. cost t i d) (below 64)) k ≡ cost t k d
         go k (yes h) = value-at (λ i. cost t i d) 64 k no-cost h
         go k (no h) =
-            List·getD-eq-default (map (λ i. cost t i d) (below 64)) no-cost (omega (arith, length-values (λ i. cost t i d) 64))
+            value-behind (λ i. cost t i d) 64 k no-cost (omega arith)
             ∙ sym (beyond k d b (omega arith))
 
     -- the next-hop sets of a router for every destination
-    pub sets-of-table : (i : ℕ) → sets-from w i ≡ map (λ d. next-hops t i d) (below 64)
+    sets-of-table : (i : ℕ) → sets-from w i ≡ map (next-hops t i) (below 64)
     unfolding sets-from
     sets-of-table i =
         ap (λ (f : ℕ → ℕ). map f (below 64)) (λ j d. hops-of-table (λ k. best w 64 k d) i d (λ k. ap (λ (v : ℕ → ℕ → ℕ). best v 64 k d) q ∙ cost-over k d) j)
+
+-- over the web of an accepted table
+module _ (table : List ℕ) (a : IsAccepted table) (t : Outline) (q : t ≡ outline-of table) (web : Web) (e : web ≡ web-at table t) where
+  o : Obeys (says table)
+  o = obeys table a
+
+  w : web-weight web ≡ weight (says table)
+  w = accepted-web table a t q web e
+
+  pub found-costs : (d : ℕ) → costs-from (web-weight web) d ≡ map (λ i. cost (says table) i d) (below 64)
+  found-costs = costs-of-table (says table) o (web-weight web) w
+
+  pub found-hops : (costs : List ℕ) (d : ℕ) → d < 64 → costs ≡ costs-from (web-weight web) d → (i : ℕ)
+      → hops-over (web-weight web) (cost-at costs) i ≡ next-hops (says table) i d
+  found-hops = hops-by-costs (says table) o (web-weight web) w
+
+  pub found-sets : (i : ℕ) → sets-from (web-weight web) i ≡ map (next-hops (says table) i) (below 64)
+  found-sets = sets-of-table (says table) o (web-weight web) w

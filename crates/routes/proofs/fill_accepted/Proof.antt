@@ -3,8 +3,7 @@
 use native.Mathlib.Omega.{arith}
 use borrow.Author.Needs.{needs}
 use Rattle.tables.proofs.Asked.{few-routers}
-use Rattle.webs.proofs.Accepted.{accepted-web}
-use Rattle.routes.proofs.Found.{found-costs, found-sets}
+use Rattle.routes.proofs.Found.{costs-found, sets-found}
 use Rattle.routes.proofs.fill_accepted.Statement.{statement}
 use Rattle.routes.proofs.fill_accepted.Tie as tie
 
@@ -36,10 +35,12 @@ returns c =
     let m = c .before .before .before .before .before .before .before .before in
     let p = m .before .before .before .before .before .before .pre in
     let h = c .before .before .before .before .hand-over .ensures in
-    let w = accepted-web _ (p .0) _ (p .1) _ (m .before .before .web-of .ensures) in
+    let e = m .before .before .web-of .ensures in
     let n = few-routers _ (p .0) _ (p .1) in
-    let f = m .before .costs-from .ensures in
-    (found-costs _ (p .0) _ w _ _ n _ f _ _ (h .0), found-sets _ (p .0) _ w _ _ n _ f _ _ (omega (arith, p .2, n)) _ (m .sets-by .ensures) (h .1))
+    let f = m .before .costs-from .ensures in (
+      costs-found _ (p .0) _ (p .1) _ e _ _ n _ f _ _ (h .0),
+      sets-found _ (p .0) _ (p .1) _ e _ _ n _ f _ _ (omega (arith, p .2, n)) _ (m .sets-by .ensures) (h .1),
+    )
 
 pub fill-accepted-spec : {M : Type 1} → statement M
 fill-accepted-spec =
