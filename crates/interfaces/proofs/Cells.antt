@@ -147,10 +147,10 @@ module _ (t : Table) (o : Obeys t) (sets : List ℕ) (i : ℕ) (e : sets ≡ map
   set-at : (d : ℕ) → d < 64 → getD sets d 0 ≡ next-hops t i d
   set-at d h = ap (λ l. getD l d 0) e ∙ value-at (next-hops t i) 64 d 0 h
 
-  pub own-empty : i < t .routers → getD sets i 0 ≡ 0
+  own-empty : i < t .routers → getD sets i 0 ≡ 0
   own-empty h = set-at i (omega (arith, o .few-routers)) ∙ empty-sets t o i i .1 (inl refl)
 
-  pub whole-table : rows (cell-by sets i) (t .routers) (t .routers) ≡ interfaces t i
+  whole-table : rows (cell-by sets i) (t .routers) (t .routers) ≡ interfaces t i
   unfolding interfaces row rows cell cell-by code-by
   whole-table = rows-same (cell-by sets i) (cell t i) (t .routers) (t .routers) one
     where

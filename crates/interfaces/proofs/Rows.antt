@@ -32,7 +32,7 @@ module _ (f : ℕ → ℕ → ℕ) (n : ℕ) where
   flatten-more [] j = append-nil (row-of j)
   flatten-more (k ∷ js) j = ap (λ l. row-of k ++ l) (flatten-more js j) ∙ sym (append-assoc (row-of k) (flatten (map row-of js)) (row-of j))
 
-  pub rows-more : (m : ℕ) → rows f n (suc m) ≡ rows f n m ++ row-of m
+  rows-more : (m : ℕ) → rows f n (suc m) ≡ rows f n m ++ row-of m
   unfolding rows below
   rows-more m = flatten-more (starts-here ∷ below m) m
 

@@ -154,7 +154,7 @@ trailing (suc m) set s b = go (set % 2) refl (trailing m (set / 2))
     go (suc (suc d)) e ih = absurd (omega arith)
 
 -- a set that no router is in
-pub no-bits : (set n : ℕ) → set < 2 ^ n → ((k : ℕ) → has set k ≡ false) → set ≡ 0
+no-bits : (set n : ℕ) → set < 2 ^ n → ((k : ℕ) → has set k ≡ false) → set ≡ 0
 no-bits set n b h = sym (mod-eq-of-lt b) ∙ sym (has-all set n) ∙ set-none (has set) h n
 
 -- ---- the theorems

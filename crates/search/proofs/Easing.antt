@@ -96,6 +96,10 @@ module _ (near weights : List ℕ) (m : ℕ) (old : List ℕ) where
     pub next-linked : rest ≢ 0 → Turn (getD near m 0) rest p (trailingZeros 64 rest)
     next-linked s = next-member (getD near m 0) rest p (e .passed) s
 
+    -- the cost of a router that is yet to be passed
+    pub cost-now : (k : ℕ) → Turn (getD near m 0) rest p k → getD costs k 0 ≡ cost-at old k
+    cost-now k t = as-read costs (e .are) k (t .router) ∙ e .changed .yet k (t .beyond)
+
     -- a set of routers fits in 64 bits
     pub fell-fits : fell < 2 ^ 64
     fell-fits = rw (e .fell-so-far) (lt-of-lt-of-le (set-below (falls w old m) p) (pow-mono (e .router)))
@@ -115,11 +119,8 @@ module _ (near weights : List ℕ) (m : ℕ) (old : List ℕ) where
         weight-now : w m k ≡ getD weights (64 * m + k) 0
         weight-now = weight-there near weights m k (t .member)
 
-        cost-now : getD costs k 0 ≡ cost-at old k
-        cost-now = as-read costs (e .are) k (t .router) ∙ e .changed .yet k (t .beyond)
-
         test : cheaper (getD weights (64 * m + k) 0) (getD old m 0) (getD costs k 0) ≡ falls w old m k
-        test = rw (weight-now, cost-now, as-read old (e .were) m (e .from))
+        test = rw (weight-now, cost-now k t, as-read old (e .were) m (e .from))
 
         value : v ≡ w m k + cost-at old m
         value = omega (arith, weight-now, as-read old (e .were) m (e .from))

@@ -14,11 +14,19 @@ use Rattle.rules.proofs.LeastCost.{best-costs, best-turned}
 abbrev pub FirstHop : (ℕ → ℕ → ℕ) → ℕ → ℕ → ℕ → Type 0
 FirstHop w s d j = Next w (λ k. best w 64 k d) s j
 
+-- j is d itself where p is s, else P is so
+abbrev pub First : ℕ → ℕ → ℕ → ℕ → Type 0 → Type 0
+First s p d j P = ((p ≡ s) × (j ≡ d)) ⊎ ((p ≢ s) × P)
+
+pub first-so : {s p d j : ℕ} {P Q : Type 0} → (P → Q) → First s p d j P → First s p d j Q
+first-so f (inl e) = inl e
+first-so f (inr (a, h)) = inr (a, f h)
+
 -- the last link of a cheapest route from s to d starts at p, and j is its first hop
 pub record LastLink (w : ℕ → ℕ → ℕ) (s p d j : ℕ) : Type 0 where
   pub link : 0 < w p d
   pub sums : best w 64 s p + w p d ≡ best w 64 s d
-  pub first : ((p ≡ s) × (j ≡ d)) ⊎ ((p ≢ s) × FirstHop w s p j)
+  pub first : First s p d j (FirstHop w s p j)
 
 module _ {w : ℕ → ℕ → ℕ} (𝓝 : Net 64 w) where
   pub turned-net : Net 64 (λ a b. w b a)
@@ -29,7 +37,7 @@ module _ {w : ℕ → ℕ → ℕ} (𝓝 : Net 64 w) where
   relax-last : (i p d : ℕ) → 0 < w p d → best w 64 i d ≤ best w 64 i p + w p d
   relax-last i p d l = omega (arith, best-costs turned-net i .relax d p l, best-turned w 64 d i, best-turned w 64 p i)
 
-  pub tight-last : (i d : ℕ) → d ≢ i → best w 64 i d < no-cost → (p : ℕ) × (0 < w p d) × (best w 64 i p + w p d ≡ best w 64 i d)
+  tight-last : (i d : ℕ) → d ≢ i → best w 64 i d < no-cost → (p : ℕ) × (0 < w p d) × (best w 64 i p + w p d ≡ best w 64 i d)
   tight-last i d a f =
       let (p, s) = best-costs turned-net i .tight d a (omega (arith, best-turned w 64 d i)) in
       (p, s .link, omega (arith, s .sums, best-turned w 64 d i, best-turned w 64 p i))
@@ -40,7 +48,7 @@ module _ {w : ℕ → ℕ → ℕ} (𝓝 : Net 64 w) where
     pub last-first : (p : ℕ) → LastLink w s p d j → FirstHop w s d j
     last-first p v = go (v .first)
       where
-        go : ((p ≡ s) × (j ≡ d)) ⊎ ((p ≢ s) × FirstHop w s p j) → FirstHop w s d j
+        go : First s p d j (FirstHop w s p j) → FirstHop w s d j
         go (inl (e, f)) = record {
           link = rw (f, ← e) (v .link);
           sums = rw f (omega (arith, v .sums, best-costs 𝓝 d .home, best-costs 𝓝 s .home, ap (λ z. w z d) e, ap (λ z. best w 64 s z) e));
@@ -77,13 +85,3 @@ module _ {w : ℕ → ℕ → ℕ} (𝓝 : Net 64 w) where
                 first = inr (λ e. omega (arith, h .link, best-costs 𝓝 s .home, ap (λ z. best w 64 s z) e), record { link = h .link; sums = sym k });
               },
             )
-
-  -- ---- costs along a last link
-
-  module _ {s p d j : ℕ} (v : LastLink w s p d j) where
-    -- the router before costs less
-    pub before-less : best w 64 s p < best w 64 s d
-    before-less = omega (arith, v .link, v .sums)
-
-    pub before-finite : best w 64 s p < no-cost
-    before-finite = omega (arith, before-less, best-costs 𝓝 d .top s)

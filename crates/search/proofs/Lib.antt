@@ -1,9 +1,8 @@
 pub mod Keys
 pub mod Easing
-pub mod Searching
 pub mod FirstHops
 pub mod Carrying
-pub mod Taking
+pub mod Searching
 pub mod Gathering
 pub mod OfTable
 pub mod Settled

@@ -101,7 +101,7 @@ module _ (w : ℕ → ℕ → ℕ) (costs : List ℕ) (a : AreCosts costs) (m : 
       ∙ sym (List·getD-eq-default costs no-cost {n = k} (omega (arith, a .long)))
 
   -- a cost that did not fall
-  stays : (k : ℕ) → falls w costs m k ≡ false → next k ≡ cost-at costs k
+  pub stays : (k : ℕ) → falls w costs m k ≡ false → next k ≡ cost-at costs k
   stays k f = go (decLt k 64)
     where
       go : Dec (k < 64) → next k ≡ cost-at costs k
@@ -109,13 +109,13 @@ module _ (w : ℕ → ℕ → ℕ) (costs : List ℕ) (a : AreCosts costs) (m : 
       go (no h) = behind k (omega arith)
 
   -- one that fell
-  fell : (k : ℕ) → k < 64 → falls w costs m k ≡ true → (0 < w m k) × (next k ≡ w m k + cost-at costs m) × (next k < cost-at costs k)
+  pub fell : (k : ℕ) → k < 64 → falls w costs m k ≡ true → (0 < w m k) × (next k ≡ w m k + cost-at costs m) × (next k < cost-at costs k)
   fell k h f =
       let s = cheaper-says (w m k) (cost-at costs m) (cost-at costs k) f in
       let e : next k ≡ w m k + cost-at costs m = eased-at k h ∙ pick-t _ _ _ f in
       (s .0, e, omega (arith, s .1))
 
-  no-higher : (k : ℕ) → next k ≤ cost-at costs k
+  pub no-higher : (k : ℕ) → next k ≤ cost-at costs k
   no-higher k = go (decLt k 64) (falls w costs m k) refl
     where
       go : Dec (k < 64) → (b : Bool) → falls w costs m k ≡ b → next k ≤ cost-at costs k
@@ -150,7 +150,11 @@ pub record Waiting (w : ℕ → ℕ → ℕ) (s : ℕ) (costs : List ℕ) (waiti
   pub relaxed : (i k : ℕ) → 0 < w k i → has waiting k ≡ false → cost-at costs i ≤ w k i + cost-at costs k
 
 module _ (w : ℕ → ℕ → ℕ) (s : ℕ) where
-  -- at first only s waits
+  -- at first only s has a cost
+  other : (i : ℕ) → i ≢ s → cost-at (set (replicate 64 no-cost) s 0) i ≡ no-cost
+  other i a = getD-set-other (replicate 64 no-cost) s i 0 no-cost a ∙ no-cost-at i
+
+  -- and only s waits
   setting-off : s < 64 → Waiting w s (set (replicate 64 no-cost) s 0) (2 ^ s)
   setting-off h = record {
     are = are;
@@ -169,9 +173,6 @@ module _ (w : ℕ → ℕ → ℕ) (s : ℕ) where
       home : cost-at start s ≡ 0
       home = cost-written (replicate 64 no-cost) no-costs-are s 0 h
 
-      other : (i : ℕ) → i ≢ s → cost-at start i ≡ no-cost
-      other i a = getD-set-other (replicate 64 no-cost) s i 0 no-cost a ∙ no-cost-at i
-
       routed : (i : ℕ) → cost-at start i < no-cost → Dec (i ≡ s) → Route (λ a b. w b a) s i (cost-at start i)
       routed i f (yes e) = rw e (rw home arrived)
       routed i f (no a) = absurd (omega (arith, other i a))
@@ -183,6 +184,10 @@ module _ (w : ℕ → ℕ → ℕ) (s : ℕ) where
   -- as the code makes it
   pub first-step : s < 64 → (none : List ℕ) → none ≡ replicate 64 no-cost → (bit : ℕ) → bit ≡ 2 ^ s → Waiting w s (set none s 0) bit
   first-step h none n bit b = rw (n, b) (setting-off h)
+
+  pub first-others : (none : List ℕ) → none ≡ replicate 64 no-cost → (bit : ℕ) → bit ≡ 2 ^ s
+      → (k : ℕ) → has bit k ≡ false → cost-at (set none s 0) k ≡ no-cost
+  first-others none n bit b k e = rw n (other k (λ q. false≢true (sym e ∙ ap (has bit) q ∙ ap (λ t. has t s) b ∙ own-bit s)))
 
   module _ (𝓝 : Net 64 w) (costs : List ℕ) (waiting : ℕ) (o : Waiting w s costs waiting) (m : ℕ) (q : IsNearest costs waiting m) where
     -- one router passes its cost on
@@ -257,22 +262,25 @@ module _ (w : ℕ → ℕ → ℕ) (s : ℕ) where
 
 module _ (w : ℕ → ℕ → ℕ) (𝓝 : Net 64 w) (s : ℕ) where
   -- no router waits: the costs are the least ones
-  pub all-found : (costs : List ℕ) (waiting : ℕ) → Waiting w s costs waiting → waiting ≡ 0 → costs ≡ costs-from w s
-  unfolding costs-from
-  all-found costs waiting o e =
-      ext-getD no-cost costs _ (o .are .long ∙ sym (length-values (best w 64 s) 64))
-      (λ i l. least i ∙ sym (value-at (best w 64 s) 64 i no-cost (omega (arith, o .are .long))))
-    where
-      proof : Certified (λ a b. w b a) s (suc no-cost) (cost-at costs)
-      proof = record {
-        home = o .home;
-        top = cost-top costs (o .are);
-        routed = o .routed;
-        relaxed = λ i k l b. o .relaxed i k l (ap (λ n. has n k) e ∙ has-below 0 0 k (omega arith) (omega arith));
-      }
+  module _ (costs : List ℕ) (waiting : ℕ) (o : Waiting w s costs waiting) (e : waiting ≡ 0) where
+    pub least-found : (i : ℕ) → cost-at costs i ≡ best w 64 s i
+    least-found i =
+        certified-is-best (turned-net 𝓝) s (suc no-cost) (cost-at costs) proof i (omega (arith, cost-top costs (o .are) i))
+        ∙ best-turned w 64 i s
+      where
+        proof : Certified (λ a b. w b a) s (suc no-cost) (cost-at costs)
+        proof = record {
+          home = o .home;
+          top = cost-top costs (o .are);
+          routed = o .routed;
+          relaxed = λ i k l b. o .relaxed i k l (ap (λ n. has n k) e ∙ has-below 0 0 k (omega arith) (omega arith));
+        }
 
-      least : (i : ℕ) → cost-at costs i ≡ best w 64 s i
-      least i = certified-is-best (turned-net 𝓝) s (suc no-cost) (cost-at costs) proof i (omega (arith, cost-top costs (o .are) i)) ∙ best-turned w 64 i s
+    pub all-found : costs ≡ costs-from w s
+    unfolding costs-from
+    all-found =
+        ext-getD no-cost costs _ (o .are .long ∙ sym (length-values (best w 64 s) 64))
+        (λ i l. least-found i ∙ sym (value-at (best w 64 s) 64 i no-cost (omega (arith, o .are .long))))
 
   -- from a number that is no router's there are no routes
   pub none-found : 64 ≤ s → replicate 64 no-cost ≡ costs-from w s

@@ -57,18 +57,18 @@ fallen w costs m = set-of (falls w costs m) 64
 abbrev pub as-cheap : ℕ → ℕ → ℕ → Bool
 as-cheap weight from now = 0 <? weight && weight + from =? now
 
--- a cheapest route to k leads over m
-abbrev pub onward : (ℕ → ℕ → ℕ) → List ℕ → ℕ → ℕ → Bool
-onward w costs m k = as-cheap (w m k) (cost-at costs m) (cost-at costs k)
+-- the first hops to a router of this cost: those over such a link alone where it is cheaper, those too where it is as cheap, else those before
+abbrev pub renewed : ℕ → ℕ → ℕ → ℕ → ℕ → ℕ
+renewed weight from now hops over = pick (cheaper weight from now) over (pick (as-cheap weight from now) (bitOr hops over) hops)
 
 -- the first hops from router i over m to k: k itself where m is i, else those to m
 abbrev pub handed : List ℕ → ℕ → ℕ → ℕ → ℕ
 handed sets i m k = pick (m =? i) (2 ^ k) (getD sets m 0)
 
--- router k's first hops, with those over m
-abbrev pub joined : (ℕ → ℕ → ℕ) → List ℕ → ℕ → List ℕ → ℕ → ℕ → ℕ
-joined w costs i sets m k = pick (onward w costs m k) (bitOr (getD sets k 0) (handed sets i m k)) (getD sets k 0)
+-- router k's first hops when the links of m are passed
+abbrev pub hops-after : (ℕ → ℕ → ℕ) → List ℕ → ℕ → List ℕ → ℕ → ℕ → ℕ
+hops-after w costs i sets m k = renewed (w m k) (cost-at costs m) (cost-at costs k) (getD sets k 0) (handed sets i m k)
 
 -- so for every router
 unfoldable pub carried : (ℕ → ℕ → ℕ) → List ℕ → ℕ → List ℕ → ℕ → List ℕ
-carried w costs i sets m = map (joined w costs i sets m) (below 64)
+carried w costs i sets m = map (hops-after w costs i sets m) (below 64)

@@ -2,20 +2,16 @@
 ghost use mathlib.Core.Path.{_≡_};
 ghost use mathlib.Core.Logic.{_≢_};
 ghost use Prim.Native.Nat.{_+_, _^_, _<_, min};
-ghost use lib.Bits.{bitOr};
 ghost use lib.ListN.{getD, set, replicate};
 ghost use Rattle.rules.specs.Words.{pick};
 ghost use Rattle.webs.specs.Webs.{weight-over, web-weight, IsWeb};
 ghost use Rattle.search.specs.Search.{costs-from, sets-from};
-ghost use Rattle.search.specs.Steps.{AreCosts, AreSets, IsNearest, cheaper, as-cheap, eased, fallen, carried};
+ghost use Rattle.search.specs.Steps.{AreCosts, AreSets, IsNearest, cheaper, renewed, eased, fallen, carried};
 use sets::no_sets;
 use webs::Web;
 
 // What is written where there is no route.
 pub const NO_COST: u32 = 4294967295;
-
-// The set of all 64 routers.
-const ALL_ROUTERS: u64 = 18446744073709551615;
 
 fn no_costs() -> [u32; 64]
     ensures { λ r. ⌜ r ≡ replicate 64 4294967295 ⌝ }
@@ -117,75 +113,89 @@ fn handed(own: bool, hops: u64, k: usize) -> u64
     hops
 }
 
-// The first hops to a router of this cost, with those over m where a link of this weight from m's cost makes a cheapest route. Nothing is added to a
-// cost in 32 bits.
-fn joined(hops: u64, weight: u16, from: u32, cost: u32, over: u64) -> u64
-    ensures { λ r. ⌜ r ≡ pick (as-cheap weight from cost) (bitOr hops over) hops ⌝ }
+// The cost of router k over a link of this weight from a router of this cost, and its first hops: those over the link alone where that is cheaper,
+// those too where it is as cheap. Where the cost fell the answer is k's bit. Nothing is added to a cost in 32 bits.
+fn reach_one(
+    costs: &mut [u32; 64],
+    sets: &mut [u64; 64],
+    k: usize,
+    weight: u16,
+    from: u32,
+    over: u64,
+) -> u64
+    requires { ⌜ (k < 64) × AreCosts (now costs) × AreSets (now sets) ⌝ }
+    ensures { λ r. ⌜
+        (r ≡ pick (cheaper weight from (getD (now (costs .entry)) k 0)) (2 ^ k) 0)
+        × (now (costs .exit) ≡ pick (cheaper weight from (getD (now (costs .entry)) k 0))
+        (set (now (costs .entry)) k (weight + from)) (now (costs .entry)))
+        × (now (sets .exit) ≡ set (now (sets .entry)) k
+        (renewed weight from (getD (now (costs .entry)) k 0) (getD (now (sets .entry)) k 0) over))
+        ⌝ }
 {
     if weight == 0 {
-        return hops;
+        return 0;
     }
-    if (weight as u64) + (from as u64) == (cost as u64) {
-        return hops | over;
+    let sum = (weight as u64) + (from as u64);
+    let cost = costs[k] as u64;
+    if sum < cost {
+        costs[k] = sum as u32;
+        sets[k] = over;
+        return 1u64 << k;
     }
-    hops
+    if sum == cost {
+        sets[k] = sets[k] | over;
+        return 0;
+    }
+    0
 }
 
-// The first hops over router m's links.
-fn carry<'a>(
+// Costs and first hops over router m's links; the answer is the set of the routers whose cost fell.
+fn reach<'a>(
     near: &'a [u64; 64],
     weights: &'a [u16; 4096],
-    costs: &'a [u32; 64],
     router: u8,
     m: usize,
+    costs: &mut [u32; 64],
     sets: &mut [u64; 64],
-)
-    requires { ⌜ IsWeb (now near) (now weights) × AreCosts (now costs) × (m < 64) × AreSets (now sets) ⌝ }
-    ensures { λ _. ⌜ now (sets .exit)
-        ≡ carried (weight-over (now (near .entry)) (now (weights .entry))) (now (costs .entry)) router (now (sets .entry)) m ⌝ }
+) -> u64
+    requires { ⌜ IsWeb (now near) (now weights) × (m < 64) × AreCosts (now costs) × AreSets (now sets) ⌝ }
+    ensures { λ r. ⌜
+        (r ≡ fallen (weight-over (now (near .entry)) (now (weights .entry))) (now (costs .entry)) m)
+        × (now (costs .exit) ≡ eased (weight-over (now (near .entry)) (now (weights .entry))) (now (costs .entry)) m)
+        × (now (sets .exit)
+        ≡ carried (weight-over (now (near .entry)) (now (weights .entry))) (now (costs .entry)) router (now (sets .entry)) m)
+        ⌝ }
 {
     let from = costs[m];
     let hops = sets[m];
     let own = m == (router as usize);
+    let mut fallen = 0;
     let mut rest = near[m];
     while rest != 0 {
         let k = u64::trailing_zeros(rest) as usize;
         let over = handed(own, hops, k);
-        sets[k] = joined(sets[k], weights[64 * m + k], from, costs[k], over);
+        fallen += reach_one(costs, sets, k, weights[64 * m + k], from, over);
         rest = rest & (rest - 1);
     }
+    fallen
 }
 
-// The next-hop sets of a router, by the costs from it. The nearest waiting router is taken, and first hops are carried on over its links; of the
-// routers that are left, those that it is linked to wait from then on.
-fn gather<'a>(
-    near: &'a [u64; 64],
-    weights: &'a [u16; 4096],
-    costs: &'a [u32; 64],
-    router: u8,
-) -> [u64; 64]
-    requires { ⌜ IsWeb (now near) (now weights) × (now costs ≡ costs-from (weight-over (now near) (now weights)) router) ⌝ }
-    ensures { λ r. ⌜ r ≡ sets-from (weight-over (now (near .entry)) (now (weights .entry))) router ⌝ }
+// The next-hop sets of a router for each of 64 destinations, by the search for its costs: the nearest waiting router passes its first hops on with
+// its cost.
+pub fn sets_from(web: Web, router: u8) -> [u64; 64]
+    ensures { λ r. ⌜ r ≡ sets-from (web-weight web) router ⌝ }
 {
     let mut sets = no_sets();
     if 64 <= router {
         return sets;
     }
-    let mut left = ALL_ROUTERS;
+    let mut costs = no_costs();
+    costs[router as usize] = 0;
     let mut waiting = 1u64 << router;
     while waiting != 0 {
-        let m = nearest(costs, waiting);
-        carry(near, weights, costs, router, m, &mut sets);
-        left = left - (1u64 << m);
-        waiting = (waiting | near[m]) & left;
+        let m = nearest(&costs, waiting);
+        let fallen = reach(&web.near, &web.weights, router, m, &mut costs, &mut sets);
+        waiting = (waiting - (1u64 << m)) | fallen;
     }
     sets
-}
-
-// The next-hop sets of a router for each of 64 destinations.
-pub fn sets_from(web: Web, router: u8) -> [u64; 64]
-    ensures { λ r. ⌜ r ≡ sets-from (web-weight web) router ⌝ }
-{
-    let costs = costs_from(web, router);
-    gather(&web.near, &web.weights, &costs, router)
 }

@@ -29,7 +29,7 @@ own-bit k =
     let e : 2 ^ k / 2 ^ k ≡ 1 = rw one-mul at (shl-shr 1 k) in
     rw e
 
-pub no-other-bit : (k j : ℕ) → j ≢ k → has (2 ^ k) j ≡ false
+no-other-bit : (k j : ℕ) → j ≢ k → has (2 ^ k) j ≡ false
 no-other-bit k j a =
     let z : 2 ^ k - 2 ^ k ≡ 0 = omega arith in
     sym (others-stay k (2 ^ k) j (own-bit k) a) ∙ ap (λ s. has s j) z ∙ nobody j

@@ -12,7 +12,7 @@ use lib.ListN.{length, getD, List·getD-eq-default}
 use borrow.Author.Tests.{lt-ltb}
 use Rattle.rules.specs.Words.{_<?_, pick, below}
 use Rattle.rules.specs.NextHops.{has, set-of}
-use Rattle.rules.proofs.Basics.{pick-t, pick-f, length-values, value-at}
+use Rattle.rules.proofs.Basics.{pick-t, pick-f, value-at, value-behind}
 use Rattle.rules.proofs.CostLaws.{Net}
 use Rattle.rules.proofs.Sets.{set-below, set-has, has-below, member-below}
 use Rattle.sets.proofs.Members.{nobody}
@@ -75,7 +75,7 @@ module _ {w : ℕ → ℕ → ℕ} (𝓝 : Net 64 w) where
       go (yes p) = absurd (h (𝓝 .inside i k p))
       go (no p) = omega arith
 
-  pub web-says : (i k : ℕ) → web-weight (web-by w) i k ≡ w i k
+  web-says : (i k : ℕ) → web-weight (web-by w) i k ≡ w i k
   unfolding web-by weight-over
   web-says i k = go (decLt i 64) (decLt k 64)
     where
@@ -94,7 +94,7 @@ module _ {w : ℕ → ℕ → ℕ} (𝓝 : Net 64 w) where
 
       go : Dec (i < 64) → Dec (k < 64) → pick (has (getD rows i 0) k) (getD weights (64 * i + k) 0) 0 ≡ w i k
       go (no a) e =
-          let z : getD rows i 0 ≡ 0 = List·getD-eq-default rows 0 (omega (arith, length-values row 64)) in
+          let z : getD rows i 0 ≡ 0 = value-behind row 64 i 0 (omega arith) in
           pick-f _ _ _ (ap (λ s. has s k) z ∙ nobody k) ∙ none-outside i k (λ h. a (h .0))
       go (yes a) (no b) =
           pick-f _ _ _ (ap (λ s. has s k) (value-at row 64 i 0 a) ∙ has-below (row i) 64 k (set-below (λ k. 0 <? w i k) 64) (omega arith))

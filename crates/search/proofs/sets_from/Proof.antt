@@ -1,21 +1,106 @@
--- `search::sets_from` meets its contract.
+-- `search::sets_from` meets its contract. The measure falls because a cost falls, or else a router waits no more.
 -- Assumes nothing.
+use native.Mathlib.Omega.{arith}
 use borrow.Author.Needs.{needs}
-use Rattle.webs.proofs.Webs.{is-web}
+use Rattle.webs.specs.Webs.{web-weight, IsWeb}
+use Rattle.webs.proofs.Webs.{is-web, web-net}
+use Rattle.sets.proofs.Bits.{member-weight}
+use Rattle.sets.proofs.Members.{one-bit}
+use Rattle.search.proofs.Searching.{Waiting, left-over, first-step, one-step}
+use Rattle.search.proofs.Gathering.{Gathered, none-gathered, one-gathered, all-gathered, no-router}
 use Rattle.search.proofs.sets_from.Statement.{statement}
 use Rattle.search.proofs.sets_from.Tie as tie
 
-costs-from-requires : tie.Need-costs-from-requires
-costs-from-requires c κs = search needs
+abbrev Inv-loop : tie.InvT-loop
+Inv-loop router web sets₀ costs₀ waiting₀ sets costs waiting =
+    IsWeb (web .near) (web .weights) × Waiting (web-weight web) router costs waiting × Gathered (web-weight web) router costs waiting sets
 
-gather-requires : tie.Need-gather-requires
-gather-requires c κs = (
+abbrev μ-loop : tie.MeasureT-loop
+μ-loop router web sets₀ costs₀ waiting₀ sets costs waiting = left-over costs waiting
+
+no-sets-requires : tie.Need-no-sets-requires Inv-loop μ-loop
+no-sets-requires c κs = search needs
+
+returns : tie.Need-returns Inv-loop μ-loop
+returns c =
+    let web = c .before .before .args .t1 in
+    let is = is-web (web .near) (web .weights) (search needs) (search needs) (λ i. search needs) (λ z. search needs) in
+    no-router (web-net _ _ is) _ _ (c .before .no-sets .ensures) (c .if1 .taken)
+
+no-costs-requires : tie.Need-no-costs-requires Inv-loop μ-loop
+no-costs-requires c κs = search needs
+
+mul-costs : tie.Need-mul-costs Inv-loop μ-loop
+mul-costs c = search needs
+
+array-write-costs : tie.Need-array-write-costs Inv-loop μ-loop
+array-write-costs c = search needs
+
+shl-waiting : tie.Need-shl-waiting Inv-loop μ-loop
+shl-waiting c = search needs
+
+loop-holds : tie.Need-loop-holds Inv-loop μ-loop
+loop-holds c = (
   is-web _ _ (search needs) (search needs) (λ i. search needs) (λ z. search needs),
-  c .before .before .before .before .costs-from .ensures,
+  first-step _ _ (search needs) _ (c .no-costs .ensures) _ (one-bit _ (search needs)),
+  none-gathered _ _ (search needs) _ (c .no-costs .ensures) _ (one-bit _ (search needs)) _ (c .before .before .no-sets .ensures),
 )
 
-returns : tie.Need-returns
-returns c = search needs
+nearest-requires : tie.Need-nearest-requires Inv-loop μ-loop
+nearest-requires c κs = (c .before .loop-test .taken, c .before .before .loop .inv .1 .are)
+
+reach-requires : tie.Need-reach-requires Inv-loop μ-loop
+reach-requires c κs =
+    let v = c .before .before .before .before .before .before .before .before .loop .inv in
+    (v .0, c .before .before .before .before .before .nearest .ensures .router, v .1 .are, v .2 .are)
+
+shl-waiting-2 : tie.Need-shl-waiting-2 Inv-loop μ-loop
+shl-waiting-2 c = c .before .before .before .before .before .before .nearest .ensures .router
+
+sub-waiting : tie.Need-sub-waiting Inv-loop μ-loop
+sub-waiting c =
+    let q = c .before .before .before .before .before .before .nearest .ensures in
+    omega (arith, one-bit _ (q .router), member-weight _ _ (q .member))
+
+loop-less : tie.Need-loop-less Inv-loop μ-loop
+loop-less c =
+    let v = c .before .before .before .before .before .before .before .before .before .loop .inv in
+    let q = c .before .before .before .before .before .before .nearest .ensures in
+    let r = c .reach .ensures in
+    one-step _ _ (web-net _ _ (v .0)) _ _ (v .1) _ q _ (one-bit _ (q .router)) _ (r .0) _ (r .1) .1
+
+loop-again : tie.Need-loop-again Inv-loop μ-loop
+loop-again c =
+    let v = c .before .before .before .before .before .before .before .before .before .loop .inv in
+    let q = c .before .before .before .before .before .before .nearest .ensures in
+    let r = c .reach .ensures in (
+      v .0,
+      one-step _ _ (web-net _ _ (v .0)) _ _ (v .1) _ q _ (one-bit _ (q .router)) _ (r .0) _ (r .1) .0,
+      one-gathered (web-net _ _ (v .0)) _ _ _ (v .1) _ (v .2) _ q _ (one-bit _ (q .router)) _ (r .0) _ (r .1) _ (r .2),
+    )
+
+returns-2 : tie.Need-returns-2 Inv-loop μ-loop
+returns-2 c =
+    let v = c .before .loop .inv in
+    all-gathered (web-net _ _ (v .0)) _ _ _ _ (v .1) (v .2) (c .loop-test .left)
 
 pub sets-from-spec : {M : Type 1} → statement M
-sets-from-spec = tie.close (tie.spec costs-from-requires gather-requires returns)
+sets-from-spec =
+    tie.close
+    (tie.spec
+    Inv-loop
+    μ-loop
+    no-sets-requires
+    returns
+    no-costs-requires
+    mul-costs
+    array-write-costs
+    shl-waiting
+    loop-holds
+    nearest-requires
+    reach-requires
+    shl-waiting-2
+    sub-waiting
+    loop-less
+    loop-again
+    returns-2)
