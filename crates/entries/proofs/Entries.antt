@@ -27,8 +27,7 @@ use Rattle.tables.specs.Readings.{outline-of}
 use Rattle.tables.specs.declared.Outline.{Outline}
 use Rattle.webs.specs.declared.Web.{Web}
 use Rattle.webs.specs.Webs.{web-at, web-weight}
-use Rattle.search.specs.Steps.{cost-at}
-use Rattle.search.specs.Search.{costs-from, hops-over}
+use Rattle.search.specs.Search.{cost-at, costs-from, hops-over}
 use Rattle.search.proofs.OfTable.{found-hops}
 use Rattle.entries.specs.declared.Entry.{Entry as EntryHere}
 use Rattle.entries.specs.declared.Entry.the-variants.{Deliver, Discard, NoRoute, Forward}

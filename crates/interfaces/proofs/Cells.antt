@@ -6,7 +6,7 @@ use mathlib.Core.Bool.{Bool, true, false}
 use mathlib.Core.List.{List, _∷_, _++_, map, flatten}
 use Prim.Native.Nat.{ℕ, zero, suc, _+_, _*_, _^_, _≤_, _<_, _/_}
 use native.Mathlib.Numerals.{add-one}
-use native.Mathlib.Decide.{ℕ-discrete}
+use native.Mathlib.Decide.{ℕ-discrete, decLt}
 use native.Mathlib.Omega.{arith}
 use lib.Bits.{bitAnd, bitOr}
 use lib.Dec.{eqb}
@@ -21,8 +21,8 @@ use Rattle.rules.specs.Entries.{starts-here, entry-by, code, cell, row, interfa
 use Rattle.rules.specs.Demand1.{IsAccepted}
 use Rattle.rules.proofs.Acceptance.{obeys}
 use Rattle.rules.proofs.PlaceByPlace.{Filled, all-of-filled}
-use Rattle.rules.proofs.Basics.{values-same, neither, pick-t, pick-f, value-at}
-use Rattle.rules.proofs.Sets.{has-below, empty-sets}
+use Rattle.rules.proofs.Basics.{values-same, value-behind, neither, pick-t, pick-f, value-at}
+use Rattle.rules.proofs.Sets.{has-below, empty-sets, sets-fit}
 use Rattle.tables.specs.Readings.{outline-of}
 use Rattle.tables.specs.declared.Outline.{Outline}
 use Rattle.tables.proofs.Asked.{own-routers, few-routers}
@@ -30,7 +30,8 @@ use Rattle.sets.proofs.Members.{nobody}
 use Rattle.sets.proofs.Bits.{has-joined, shifted-down}
 use Rattle.webs.specs.declared.Web.{Web}
 use Rattle.webs.specs.Webs.{web-at, web-weight}
-use Rattle.search.specs.Search.{sets-from}
+use Rattle.search.specs.declared.Found.{Found}
+use Rattle.search.specs.Search.{found-from}
 use Rattle.search.proofs.OfTable.{found-sets}
 use Rattle.entries.specs.declared.Entry.{Entry}
 use Rattle.entries.specs.Entries.{entry-told, rules-by}
@@ -147,6 +148,14 @@ module _ (t : Table) (o : Obeys t) (sets : List ℕ) (i : ℕ) (e : sets ≡ map
   set-at : (d : ℕ) → d < 64 → getD sets d 0 ≡ next-hops t i d
   set-at d h = ap (λ l. getD l d 0) e ∙ value-at (next-hops t i) 64 d 0 h
 
+  -- each set is a 64-bit number
+  sets-small : (d : ℕ) → getD sets d 0 < 2 ^ 64
+  sets-small d = go (decLt d 64)
+    where
+      go : Dec (d < 64) → getD sets d 0 < 2 ^ 64
+      go (yes h) = rw (set-at d h) (sets-fit t o i d)
+      go (no h) = rw (e, value-behind (next-hops t i) 64 d 0 (omega arith)) (omega arith)
+
   own-empty : i < t .routers → getD sets i 0 ≡ 0
   own-empty h = set-at i (omega (arith, o .few-routers)) ∙ empty-sets t o i i .1 (inl refl)
 
@@ -160,15 +169,21 @@ module _ (t : Table) (o : Obeys t) (sets : List ℕ) (i : ℕ) (e : sets ≡ map
 -- the rows over the web of an accepted table
 module _ (table : List ℕ) (a : IsAccepted table) (t : Outline) (q : t ≡ outline-of table)
     (web : Web) (e : web ≡ web-at table t)
-    (i : ℕ) (sets : List ℕ) (f : sets ≡ sets-from (web-weight web) i) where
+    (i : ℕ) (found : Found) (f : found ≡ found-from (web-weight web) i) where
+  abbrev sets : List ℕ
+  sets = found .sets
+
   own-sets : sets ≡ map (next-hops (says table) i) (below 64)
-  own-sets = f ∙ found-sets table a t q web e i
+  own-sets = found-sets table a t q web e i found f
 
   own-n : t .routers ≡ says table .routers
   own-n = own-routers table t q
 
-  pub sets-fit-rows : i < t .routers → (t .routers ≤ 64) × (getD sets i 0 ≡ 0)
-  sets-fit-rows h = (few-routers table a t q, own-empty (says table) (obeys table a) sets i own-sets (omega (arith, own-n)))
+  pub own-sets-are : i < t .routers → OwnSets sets i
+  own-sets-are h = record {
+    fit = sets-small (says table) (obeys table a) sets i own-sets;
+    own = own-empty (says table) (obeys table a) sets i own-sets (omega (arith, own-n));
+  }
 
   pub rows-of-table : (lent out : List ℕ) → out ≡ rows (cell-by sets i) (t .routers) (t .routers) ++ drop ((t .routers + 1) * t .routers) lent
       → out ≡ interfaces (says table) i ++ drop ((t .routers + 1) * t .routers) lent

@@ -13,7 +13,7 @@ ghost use Rattle.interfaces.specs.Interfaces.{Writes, OwnSets, cell-by, 
 use entries::STARTS_HERE;
 use entries::code;
 use entries::decide;
-use search::sets_from;
+use search::all_from;
 use tables::Outline;
 use tables::Reading;
 use tables::read;
@@ -134,19 +134,19 @@ fn write_row(
 }
 
 // All rows, by the router's next-hop sets for each of n destinations.
-fn write_rows(n: usize, router: u8, sets: [u64; 64], out: &mut [u8])
-    requires { ⌜ (n ≤ 64) × (router < n) × (getD sets router 0 ≡ 0) × ((n + 1) * n ≤ length (now out)) ⌝ }
-    ensures { λ _. ⌜ now (out .exit) ≡ rows (cell-by sets router) n n ++ drop ((n + 1) * n) (now (out .entry)) ⌝ }
+fn write_rows(n: usize, router: u8, sets: &[u64; 64], out: &mut [u8])
+    requires { ⌜ (n ≤ 64) × (router < n) × OwnSets (now sets) router × ((n + 1) * n ≤ length (now out)) ⌝ }
+    ensures { λ _. ⌜ now (out .exit) ≡ rows (cell-by (now (sets .entry)) router) n n ++ drop ((n + 1) * n) (now (out .entry)) ⌝ }
 {
-    let codes = start_codes(&sets, router);
-    let members = all_members(&sets);
+    let codes = start_codes(sets, router);
+    let members = all_members(sets);
     write_start(&codes, &mut out[..n]);
     let mut start = n;
     let mut previous = 0;
     while previous < n {
         let end = start + n;
         write_row(
-            &sets,
+            sets,
             members,
             &codes,
             router as usize,
@@ -171,8 +171,8 @@ fn write_accepted(table: &[u8], t: Outline, router: u8, out: &mut [u8])
     ensures { λ _. ⌜ now (out .exit) ≡ interfaces (says (now (table .entry))) router ++ drop ((t .routers + 1) * t .routers) (now (out .entry)) ⌝ }
 {
     let web = web_of(table, t);
-    let sets = sets_from(web, router);
-    write_rows(t.routers as usize, router, sets, out);
+    let found = all_from(web, router);
+    write_rows(t.routers as usize, router, &found.sets, out);
 }
 
 // The full interface table of a router.

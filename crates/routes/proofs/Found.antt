@@ -14,8 +14,7 @@ use Rattle.tables.specs.Readings.{outline-of}
 use Rattle.tables.specs.declared.Outline.{Outline}
 use Rattle.webs.specs.Webs.{web-weight, web-at}
 use Rattle.webs.specs.declared.Web.{Web}
-use Rattle.search.specs.Search.{costs-from, hops-over}
-use Rattle.search.specs.Steps.{cost-at}
+use Rattle.search.specs.Search.{costs-from, hops-over, cost-at}
 use Rattle.search.proofs.OfTable.{found-costs, found-hops}
 
 -- the first n of 64 values

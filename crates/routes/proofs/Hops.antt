@@ -2,37 +2,38 @@
 -- Assumes nothing.
 use mathlib.Core.Path.{_≡_, sym}
 use mathlib.Core.Logic.{_≢_}
-use mathlib.Core.Bool.{Bool, true, false, _&&_}
+use mathlib.Core.Bool.{Bool, true, false}
 use mathlib.Core.List.{List}
 use Prim.Native.Nat.{ℕ, suc, _+_, _-_, _*_, _%_, _^_, _≤_, _<_}
 use native.Mathlib.Omega.{arith}
 use mir.Val.{boolByte}
 use lib.Bits.{bitAnd}
 use lib.Count.{trailingZeros}
-use lib.Dec.{eqb, ltb}
+use lib.Dec.{eqb}
 use lib.ListN.{length, getD, List·getD-eq-default}
 use borrow.Author.Tests.{lt-ltb}
 use Rattle.rules.specs.Words.{pick}
-use Rattle.rules.specs.Costs.{no-cost}
 use Rattle.rules.specs.NextHops.{has}
+use Rattle.rules.proofs.Basics.{pick-f}
 use Rattle.rules.proofs.Sets.{set-none}
 use Rattle.sets.proofs.Walk.{Passed, Turn, setting-out, next-member, at-end, Made, none-made, one-made, made-fits, all-made}
 use Rattle.sets.proofs.Members.{nobody, one-bit}
 use Rattle.webs.specs.Webs.{weight-over, IsWeb}
 use Rattle.webs.proofs.Webs.{weight-there, weight-none}
-use Rattle.search.specs.Search.{hops-over}
-use Rattle.search.specs.Steps.{AreCosts, cost-at}
-use Rattle.search.proofs.Keys.{as-read}
+use Rattle.search.specs.Search.{as-cheap, hops-over, cost-at}
+use Rattle.search.specs.Steps.{AreCosts}
+use Rattle.search.proofs.Arrays.{as-read}
+use Rattle.search.proofs.OneLink.{not-linked}
 
 -- ---- the bit of one neighbour
 
 module _ (k weight there here : ℕ) where
   -- what one neighbour adds to the set
   abbrev pub bit : ℕ
-  bit = pick (ltb 0 weight && eqb (weight + there) here) (2 ^ k) 0
+  bit = pick (as-cheap weight there here) (2 ^ k) 0
 
   pub bit-unlinked : weight ≡ 0 → 0 ≡ bit
-  bit-unlinked e = rw e
+  bit-unlinked e = sym (pick-f _ _ _ (not-linked weight there here e))
 
   -- the test's outcome, as a bit moved to k
   moved : k < 64 → (t : Bool) → (boolByte t * 2 ^ k) % 18446744073709551616 ≡ pick t (2 ^ k) 0
@@ -47,11 +48,11 @@ module _ (k weight there here : ℕ) where
 module _ (near weights costs : List ℕ) (i : ℕ) where
   -- a link leads from i on to k
   abbrev hop : ℕ → Bool
-  hop k = ltb 0 (weight-over near weights i k) && eqb (weight-over near weights i k + getD costs k no-cost) (getD costs i no-cost)
+  hop k = as-cheap (weight-over near weights i k) (cost-at costs k) (cost-at costs i)
 
   -- no link leads to a router whose bit is not set
   unlinked : (k : ℕ) → has (getD near i 0) k ≡ false → hop k ≡ false
-  unlinked k e = rw (weight-none near weights i k e)
+  unlinked k e = not-linked _ _ _ (weight-none near weights i k e)
 
   -- behind the last router there is no next hop
   pub no-hops : length near ≡ 64 → 64 ≤ i → 0 ≡ hops-over (weight-over near weights) (cost-at costs) i

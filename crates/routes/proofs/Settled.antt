@@ -8,8 +8,7 @@ use Rattle.rules.specs.Promises.{Settles}
 use Rattle.rules.proofs.Uniqueness.{value-settled}
 use Rattle.webs.specs.Webs.{web-weight}
 use Rattle.webs.specs.declared.Web.{Web}
-use Rattle.search.specs.Steps.{cost-at}
-use Rattle.search.specs.Search.{hops-over}
+use Rattle.search.specs.Search.{cost-at, hops-over}
 use Rattle.routes.specs.declared.Filling.{Filling}
 use Rattle.routes.specs.declared.Filling.the-variants.{Filled, Refused}
 use Rattle.routes.specs.Fillings.{filling-numbers, Numbered, Fills}

@@ -1,18 +1,18 @@
 // Next-hop sets over a web, and the fill: costs and sets of one destination.
 ghost use mathlib.Core.Path.{_≡_};
-ghost use mathlib.Core.Bool.{_&&_, _||_};
+ghost use mathlib.Core.Bool.{_||_};
 ghost use mathlib.Core.List.{_++_, map};
 ghost use Prim.Native.Nat.{_+_, _^_, _<_, _≤_};
 ghost use lib.ListN.{length, take, drop};
-ghost use Rattle.rules.specs.Words.{_=?_, _<?_, pick, below};
+ghost use Rattle.rules.specs.Words.{_<?_, pick, below};
 ghost use Rattle.rules.specs.Table.{says};
 ghost use Rattle.rules.specs.Costs.{cost};
 ghost use Rattle.rules.specs.NextHops.{next-hops};
 ghost use Rattle.rules.specs.Demand1.{IsAccepted};
 ghost use Rattle.tables.specs.Readings.{outline-of};
 ghost use Rattle.webs.specs.Webs.{weight-over, web-weight, IsWeb};
-ghost use Rattle.search.specs.Search.{hops-over};
-ghost use Rattle.search.specs.Steps.{AreCosts, cost-at};
+ghost use Rattle.search.specs.Search.{as-cheap, hops-over, cost-at};
+ghost use Rattle.search.specs.Steps.{AreCosts};
 ghost use Rattle.routes.specs.Fillings.{Fills};
 use search::costs_from;
 use sets::no_sets;
@@ -31,7 +31,7 @@ pub enum Filling {
 // Router k's bit, if a link of this weight leads from a router of the cost `here` on to k.
 fn leads(k: usize, weight: u16, there: u32, here: u32) -> u64
     requires { ⌜ k < 64 ⌝ }
-    ensures { λ r. ⌜ r ≡ pick (0 <? weight && weight + there =? here) (2 ^ k) 0 ⌝ }
+    ensures { λ r. ⌜ r ≡ pick (as-cheap weight there here) (2 ^ k) 0 ⌝ }
 {
     if weight == 0 {
         return 0;

@@ -2,18 +2,17 @@
 -- Assumes nothing.
 use mathlib.Core.Path.{_≡_, refl, sym, _∙_, ap}
 use mathlib.Core.Logic.{_≢_, inl, inr}
-use mathlib.Core.Bool.{Bool, true, false, _&&_}
+use mathlib.Core.Bool.{Bool, true, false}
 use mathlib.Core.List.{List}
 use Prim.Native.Nat.{ℕ, suc, _+_, _*_, _^_, _≤_, _<_}
 use native.Mathlib.Decide.{ℕ-discrete, decLt}
 use native.Mathlib.Omega.{arith}
 use lib.Bits.{bitOr, or-lt}
-use lib.Dec.{eqb}
 use lib.ListN.{length, getD, set, length-set, List·getD-eq-default}
 use lib.Pow.{pow-lt}
 use lib.Seq.{ext-getD, getD-set-same, getD-set-other}
-use borrow.Author.Tests.{lt-ltb, eqb-true, eqb-false, eq-eqb, ne-eqb}
-use Rattle.rules.specs.Words.{_=?_, _<?_, pick}
+use borrow.Author.Tests.{eqb-true, eqb-false, eq-eqb, ne-eqb}
+use Rattle.rules.specs.Words.{_=?_, pick}
 use Rattle.rules.specs.NextHops.{has}
 use Rattle.rules.proofs.Basics.{pick-t, pick-f, length-values, value-at}
 use Rattle.rules.proofs.CostLaws.{Net}
@@ -21,10 +20,12 @@ use Rattle.sets.proofs.Members.{own-bit, only-bit}
 use Rattle.sets.proofs.Walk.{Turn, at-end, Changed, none-changed, one-changed, all-changed}
 use Rattle.webs.specs.Webs.{weight-over}
 use Rattle.webs.proofs.Webs.{weight-there, weight-none}
-use Rattle.search.specs.Steps.{cost-at, AreSets, cheaper, as-cheap, renewed, handed, hops-after, carried}
-use Rattle.search.proofs.Keys.{as-read}
+use Rattle.search.specs.Steps.{AreSets, cheaper, renewed, handed, hops-after, carried}
+use Rattle.search.specs.Search.{cost-at, as-cheap}
+use Rattle.search.proofs.Arrays.{as-read}
+use Rattle.search.proofs.OneLink.{no-link, is-cheaper, no-cheaper, not-linked, is-as-cheap, not-as-cheap}
 use Rattle.search.proofs.FirstHops.{First}
-use Rattle.search.proofs.Easing.{Eased, cost-now, is-cheaper, no-link, no-cheaper}
+use Rattle.search.proofs.Easing.{Eased, cost-now}
 
 -- ---- one router
 
@@ -44,21 +45,16 @@ pub data Renewal (weight from now hops over after : ℕ) : Type 0 where
 
 module _ (weight from now hops over : ℕ) where
   renewed-unlinked : weight ≡ 0 → renewed weight from now hops over ≡ hops
-  renewed-unlinked e = rw e
+  renewed-unlinked e = pick-f _ _ _ (no-link weight from now e) ∙ pick-f _ _ _ (not-linked weight from now e)
 
   renewed-cheaper : cheaper weight from now ≡ true → renewed weight from now hops over ≡ over
   renewed-cheaper f = pick-t _ _ _ f
 
   renewed-as-cheap : 0 < weight → weight + from ≡ now → renewed weight from now hops over ≡ bitOr hops over
-  renewed-as-cheap l e =
-      pick-f _ _ _ (no-cheaper weight from now (omega arith)) ∙ rw (lt-ltb 0 weight l, eq-eqb (weight + from) now e)
+  renewed-as-cheap l e = pick-f _ _ _ (no-cheaper weight from now (omega arith)) ∙ pick-t _ _ _ (is-as-cheap weight from now l e)
 
   renewed-dearer : now < weight + from → renewed weight from now hops over ≡ hops
-  renewed-dearer h = pick-f _ _ _ (no-cheaper weight from now (omega arith)) ∙ go (0 <? weight)
-    where
-      go : (t : Bool) → pick (t && eqb (weight + from) now) (bitOr hops over) hops ≡ hops
-      go true = pick-f _ _ _ (ne-eqb (weight + from) now (λ e. omega arith))
-      go false = refl
+  renewed-dearer h = pick-f _ _ _ (no-cheaper weight from now (omega arith)) ∙ pick-f _ _ _ (not-as-cheap weight from now (λ e. omega arith))
 
   renewed-fits : hops < 2 ^ 64 → over < 2 ^ 64 → renewed weight from now hops over < 2 ^ 64
   renewed-fits h o = go (cheaper weight from now) (as-cheap weight from now)

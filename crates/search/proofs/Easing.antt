@@ -2,75 +2,36 @@
 -- Assumes nothing.
 use mathlib.Core.Path.{_≡_, refl, sym, _∙_, ap}
 use mathlib.Core.Logic.{_≢_}
-use mathlib.Core.Bool.{Bool, true, false, _&&_}
+use mathlib.Core.Bool.{Bool, true, false}
 use mathlib.Core.List.{List}
 use Prim.Native.Nat.{ℕ, suc, _+_, _-_, _*_, _^_, _≤_, _<_}
-use native.Mathlib.Nat.{lt-of-lt-of-le}
-use native.Mathlib.Decide.{ℕ-discrete}
 use native.Mathlib.Omega.{arith}
 use lib.Bits.{bitAnd}
 use lib.Count.{trailingZeros}
-use lib.Dec.{ltb}
-use lib.ListN.{getD, set, length-set}
-use lib.Pow.{pow-mono}
-use lib.Seq.{getD-set-same, getD-set-other}
-use borrow.Author.Tests.{lt-ltb, le-ltb, ltb-true}
+use lib.ListN.{getD, set}
+use lib.Seq.{getD-set-other}
 use Rattle.rules.specs.Words.{pick}
 use Rattle.rules.specs.Costs.{no-cost}
-use Rattle.rules.specs.NextHops.{has, set-of}
-use Rattle.rules.proofs.Basics.{both, both-pass, pick-t, pick-f}
-use Rattle.rules.proofs.Sets.{set-below}
-use Rattle.sets.proofs.Walk.{Passed, Turn, setting-out, next-member, at-end, passed-over, Changed, none-changed, one-changed, all-changed}
+use Rattle.rules.specs.NextHops.{has}
+use Rattle.rules.proofs.Basics.{pick-t, pick-f}
+use Rattle.sets.proofs.Walk.{Passed, Turn, setting-out, next-member, at-end, Made, none-made, one-made, made-fits, all-made, Changed, none-changed, one-changed, all-changed}
 use Rattle.webs.specs.Webs.{weight-over, IsWeb}
 use Rattle.webs.proofs.Webs.{weight-there, weight-none}
-use Rattle.search.specs.Steps.{cost-at, AreCosts, cheaper, falls, lowered, eased, fallen}
-use Rattle.search.proofs.Keys.{as-read}
-
--- ---- the test
-
-pub is-cheaper : (weight from now : ℕ) → weight ≢ 0 → weight + from < now → cheaper weight from now ≡ true
-is-cheaper weight from now s h = both-pass _ _ (lt-ltb 0 weight (omega arith)) (lt-ltb (weight + from) now h)
-
-pub no-link : (weight from now : ℕ) → weight ≡ 0 → cheaper weight from now ≡ false
-no-link weight from now e = ap (λ t. t && ltb (weight + from) now) (le-ltb 0 weight (omega arith))
-
-pub no-cheaper : (weight from now : ℕ) → now ≤ weight + from → cheaper weight from now ≡ false
-no-cheaper weight from now h = go (ltb 0 weight)
-  where
-    go : (t : Bool) → (t && ltb (weight + from) now) ≡ false
-    go true = le-ltb (weight + from) now h
-    go false = refl
-
--- what a passed test says
-pub cheaper-says : (weight from now : ℕ) → cheaper weight from now ≡ true → (0 < weight) × (weight + from < now)
-cheaper-says weight from now e =
-    let b = both (ltb 0 weight) (ltb (weight + from) now) e in
-    (ltb-true 0 weight (b .0), ltb-true (weight + from) now (b .1))
-
--- ---- one cost written
-
-module _ (costs : List ℕ) (a : AreCosts costs) (k v : ℕ) (h : k < 64) where
-  pub cost-written : cost-at (set costs k v) k ≡ v
-  cost-written = getD-set-same costs k v no-cost (omega (arith, a .long))
-
-  pub written-costs : v ≤ no-cost → AreCosts (set costs k v)
-  written-costs l = record { long = length-set costs k v ∙ a .long; fit = λ j. fit j (ℕ-discrete j k) }
-    where
-      fit : (j : ℕ) → Dec (j ≡ k) → getD (set costs k v) j 0 ≤ no-cost
-      fit j (yes e) = omega (arith, ap (λ n. getD (set costs k v) n 0) e, getD-set-same costs k v 0 (omega (arith, a .long)))
-      fit j (no e) = omega (arith, getD-set-other costs k j v 0 e, a .fit j)
+use Rattle.search.specs.Steps.{AreCosts, cheaper, falls, lowered, eased, fallen}
+use Rattle.search.specs.Search.{cost-at}
+use Rattle.search.proofs.Arrays.{as-read, cost-written, written-costs}
+use Rattle.search.proofs.OneLink.{no-link, cheaper-says}
 
 -- ---- the walk
 
 -- The walk has passed all routers below p: their costs are those over router m's links, and `fell` is the set of those among them whose cost fell.
 pub record Eased (near weights : List ℕ) (m : ℕ) (old costs : List ℕ) (fell rest p : ℕ) : Type 0 where
   pub passed : Passed (getD near m 0) rest p
-  pub router : p ≤ 64
   pub from : m < 64
   pub were : AreCosts old
   pub are : AreCosts costs
   pub changed : Changed no-cost (lowered (weight-over near weights) old m) old costs p
-  pub fell-so-far : fell ≡ set-of (falls (weight-over near weights) old m) p
+  pub made : Made (falls (weight-over near weights) old m) fell p
 
 module _ (near weights : List ℕ) (m : ℕ) (old : List ℕ) where
   abbrev w : ℕ → ℕ → ℕ
@@ -81,15 +42,13 @@ module _ (near weights : List ℕ) (m : ℕ) (old : List ℕ) where
   unlinked j e = no-link _ _ _ (weight-none near weights m j e)
 
   pub none-eased : IsWeb near weights → m < 64 → AreCosts old → Eased near weights m old old 0 (getD near m 0) 0
-  unfolding set-of
   none-eased b h a = record {
     passed = setting-out (getD near m 0) (b .near-fits m);
-    router = omega arith;
     from = h;
     were = a;
     are = a;
     changed = none-changed no-cost (lowered w old m) old;
-    fell-so-far = refl;
+    made = none-made (falls w old m);
   }
 
   module _ (costs : List ℕ) (fell rest p : ℕ) (e : Eased near weights m old costs fell rest p) where
@@ -102,7 +61,7 @@ module _ (near weights : List ℕ) (m : ℕ) (old : List ℕ) where
 
     -- a set of routers fits in 64 bits
     pub fell-fits : fell < 2 ^ 64
-    fell-fits = rw (e .fell-so-far) (lt-of-lt-of-le (set-below (falls w old m) p) (pow-mono (e .router)))
+    fell-fits = made-fits (falls w old m) fell p (e .made)
 
     -- one router more
     pub one-eased : (k : ℕ) → Turn (getD near m 0) rest p k → (r : ℕ) (next : List ℕ)
@@ -110,7 +69,6 @@ module _ (near weights : List ℕ) (m : ℕ) (old : List ℕ) where
         → next
         ≡ pick (cheaper (getD weights (64 * m + k) 0) (getD old m 0) (getD costs k 0)) (set costs k (getD weights (64 * m + k) 0 + getD old m 0)) costs
         → Eased near weights m old next (fell + r) (bitAnd rest (rest - 1)) (suc k)
-    unfolding set-of
     one-eased k t r next q n = go (falls w old m k) refl
       where
         v : ℕ
@@ -132,12 +90,11 @@ module _ (near weights : List ℕ) (m : ℕ) (old : List ℕ) where
             → Eased near weights m old next (fell + r) (bitAnd rest (rest - 1)) (suc k)
         build next are same here = record {
           passed = t .passed;
-          router = t .router;
           from = e .from;
           were = e .were;
           are = are;
           changed = one-changed no-cost (lowered w old m) old costs p (e .changed) k (t .beyond) (λ j l u. pick-f _ _ _ (skip j l u)) next same here;
-          fell-so-far = omega (arith, q ∙ ap (λ b. pick b (2 ^ k) 0) test, e .fell-so-far, passed-over (falls w old m) p k (t .beyond) skip);
+          made = one-made (falls w old m) fell p (e .made) k (t .beyond) (t .router) skip r (q ∙ ap (λ b. pick b (2 ^ k) 0) test);
         }
 
         go : (b : Bool) → falls w old m k ≡ b → Eased near weights m old next (fell + r) (bitAnd rest (rest - 1)) (suc k)
@@ -157,7 +114,7 @@ module _ (near weights : List ℕ) (m : ℕ) (old : List ℕ) where
     pub all-eased : rest ≡ 0 → (fell ≡ fallen w old m) × (costs ≡ eased w old m)
     unfolding fallen eased
     all-eased z = (
-      e .fell-so-far ∙ sym (passed-over (falls w old m) p 64 (e .router) (λ j l u. over j l)),
+      all-made (falls w old m) fell p (e .made) over,
       all-changed no-cost (lowered w old m) old costs p (e .changed) 64 (e .are .long) (λ j l. pick-f _ _ _ (over j l)),
     )
       where

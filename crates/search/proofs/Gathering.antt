@@ -2,28 +2,28 @@
 -- Assumes nothing.
 use mathlib.Core.Path.{_≡_, refl, sym, _∙_, ap}
 use mathlib.Core.Logic.{_⊎_, inl, inr}
-use mathlib.Core.Bool.{Bool, true, false, _&&_, _||_, or-true, or-false, false≢true}
+use mathlib.Core.Bool.{Bool, true, false, _||_, or-true, or-false, false≢true}
 use mathlib.Core.List.{List}
-use Prim.Native.Nat.{ℕ, zero, suc, _+_, _-_, _^_, _≤_, _<_}
+use Prim.Native.Nat.{ℕ, _+_, _-_, _^_, _≤_, _<_}
 use native.Mathlib.Decide.{ℕ-discrete, decLt}
 use native.Mathlib.Omega.{arith}
 use lib.Bits.{bitOr}
 use lib.ListN.{getD, set, replicate}
 use lib.Seq.{ext-getD}
-use borrow.Author.Tests.{ltb-true, lt-ltb, eqb-true, eq-eqb}
-use Rattle.rules.specs.Words.{_=?_, _<?_}
 use Rattle.rules.specs.Costs.{no-cost, best}
 use Rattle.rules.specs.NextHops.{has, set-of}
-use Rattle.rules.proofs.Basics.{both, both-pass, neither, strong, value-at, length-values}
+use Rattle.rules.proofs.Basics.{neither, strong, value-at, length-values}
 use Rattle.rules.proofs.CostLaws.{Net}
 use Rattle.rules.proofs.Sets.{set-below, set-has, has-below}
 use Rattle.sets.proofs.Bits.{taken-out, others-stay, has-joined}
 use Rattle.sets.proofs.Members.{nobody, set-by}
-use Rattle.search.specs.Search.{hops-over, sets-from}
-use Rattle.search.specs.Steps.{cost-at, AreSets, IsNearest, falls, handed, eased, fallen, carried}
-use Rattle.search.proofs.Easing.{cheaper-says}
+use Rattle.search.specs.Search.{as-cheap, costs-from, hops-over, sets-from, found-from, cost-at}
+use Rattle.search.specs.declared.Found.{Found}
+use Rattle.search.specs.Steps.{AreSets, IsNearest, falls, handed, eased, fallen, carried}
+use Rattle.search.proofs.Arrays.{cost-top, empty-are, empty-sets}
+use Rattle.search.proofs.OneLink.{cheaper-says, is-as-cheap, as-cheap-says}
 use Rattle.search.proofs.FirstHops.{FirstHop, First, first-so, last-first, first-last}
-use Rattle.search.proofs.Searching.{Waiting, cost-top, stays, fell, no-higher, first-step, first-others, least-found}
+use Rattle.search.proofs.Searching.{Waiting, stays, fell, no-higher, first-step, first-others, least-found}
 use Rattle.search.proofs.Carrying.{Renewal, anew, joined, kept, handed-says, says-handed, carried-are, carried-on}
 
 -- Router p does not wait, a link leads from it to k at k's cost, and j is k itself where p is s, else a first hop to p.
@@ -39,20 +39,6 @@ pub record Gathered (w : ℕ → ℕ → ℕ) (s : ℕ) (costs : List ℕ) (wait
   pub nearer : (x y : ℕ) → has waiting x ≡ false → cost-at costs x < no-cost → has waiting y ≡ true → cost-at costs x ≤ cost-at costs y
   pub sound : (k j : ℕ) → has (getD sets k 0) j ≡ true → (p : ℕ) × Over w s costs waiting sets p k j
   pub whole : (p k j : ℕ) → Over w s costs waiting sets p k j → has (getD sets k 0) j ≡ true
-
--- ---- no sets yet
-
-no-sets : (n k : ℕ) → getD {A = ℕ} (replicate n 0) k 0 ≡ 0
-no-sets zero k = refl
-no-sets (suc n) zero = refl
-no-sets (suc n) (suc k) = no-sets n k
-
-module _ (sets : List ℕ) (e : sets ≡ replicate 64 0) where
-  empty-are : AreSets sets
-  empty-are = rw e (record { long = refl; fit = λ k. omega (arith, no-sets 64 k) })
-
-  empty-sets : (k j : ℕ) → has (getD sets k 0) j ≡ false
-  empty-sets k j = ap (λ l. has (getD l k 0) j) e ∙ ap (λ n. has n j) (no-sets 64 k) ∙ nobody j
 
 -- at first only s has a cost, and it waits
 pub none-gathered : (w : ℕ → ℕ → ℕ) (s : ℕ) → s < 64 → (none : List ℕ) → none ≡ replicate 64 no-cost → (bit : ℕ) → bit ≡ 2 ^ s
@@ -286,15 +272,15 @@ module _ {w : ℕ → ℕ → ℕ} (𝓝 : Net 64 w) (s : ℕ) where
       ∙ sym (value-at (λ d. set-of (test d) 64) 64 d 0 (omega (arith, a .long))))
     where
       test : ℕ → ℕ → Bool
-      test d k = 0 <? w s k && w s k + best w 64 k d =? best w 64 s d
+      test d k = as-cheap (w s k) (best w 64 k d) (best w 64 s d)
 
       hops-test : (d j : ℕ) → FirstHop w s d j → test d j ≡ true
-      hops-test d j h = both-pass _ _ (lt-ltb 0 (w s j) (h .link)) (eq-eqb _ _ (h .sums))
+      hops-test d j h = is-as-cheap (w s j) (best w 64 j d) (best w 64 s d) (h .link) (h .sums)
 
       test-hops : (d j : ℕ) → test d j ≡ true → FirstHop w s d j
       test-hops d j e =
-          let b = both (0 <? w s j) (w s j + best w 64 j d =? best w 64 s d) e in
-          record { link = ltb-true 0 (w s j) (b .0); sums = eqb-true _ _ (b .1) }
+          let b = as-cheap-says (w s j) (best w 64 j d) (best w 64 s d) e in
+          record { link = b .0; sums = b .1 }
 
       has-test : (d j : ℕ) → has (getD sets d 0) j ≡ test d j
       has-test d j = go _ _ refl refl
@@ -337,3 +323,9 @@ module _ {w : ℕ → ℕ → ℕ} (𝓝 : Net 64 w) (s : ℕ) where
   no-router sets e h =
       by-members sets (empty-are sets e)
       (λ d j. (λ t. absurd (false≢true (sym (empty-sets sets e d j) ∙ t)), λ f. absurd (omega (arith, 𝓝 .inside s j (f .link) .0))))
+
+-- costs and sets together
+pub both-found : (w : ℕ → ℕ → ℕ) (s : ℕ) (costs sets : List ℕ) → costs ≡ costs-from w s → sets ≡ sets-from w s
+    → _≡_ {A = Found} (record { costs = costs; sets = sets }) (found-from w s)
+unfolding found-from
+both-found w s costs sets p q = λ i. record { costs = p i; sets = q i }

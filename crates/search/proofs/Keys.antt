@@ -10,16 +10,12 @@ use native.Mathlib.Omega.{arith}
 use lib.Bits.{bitAnd}
 use lib.Count.{trailingZeros}
 use lib.ListN.{getD}
-use Rattle.rules.specs.Costs.{no-cost}
 use Rattle.rules.specs.NextHops.{has}
-use Rattle.rules.proofs.Basics.{any-default}
 use Rattle.rules.proofs.Sets.{member-below, trailing}
 use Rattle.sets.proofs.Walk.{Passed, Turn, setting-out, next-member, at-end}
-use Rattle.search.specs.Steps.{cost-at, AreCosts, IsNearest}
-
--- the code reads costs with default 0
-pub as-read : (costs : List ℕ) → AreCosts costs → (k : ℕ) → k < 64 → getD costs k 0 ≡ cost-at costs k
-as-read costs a k h = any-default costs k 0 no-cost (omega (arith, a .long))
+use Rattle.search.proofs.Arrays.{as-read}
+use Rattle.search.specs.Steps.{AreCosts, IsNearest}
+use Rattle.search.specs.Search.{cost-at}
 
 -- cost and number of a router as one number
 abbrev pub key : List ℕ → ℕ → ℕ

@@ -1,3 +1,5 @@
+pub mod Arrays
+pub mod OneLink
 pub mod Keys
 pub mod Easing
 pub mod FirstHops

@@ -25,8 +25,8 @@ use Rattle.sets.proofs.Walk.{passed-over}
 use Rattle.webs.specs.Webs.{web-weight, web-at}
 use Rattle.webs.specs.declared.Web.{Web}
 use Rattle.webs.proofs.Accepted.{accepted-web}
-use Rattle.search.specs.Search.{costs-from, hops-over, sets-from}
-use Rattle.search.specs.Steps.{cost-at}
+use Rattle.search.specs.declared.Found.{Found}
+use Rattle.search.specs.Search.{costs-from, hops-over, sets-from, cost-at, found-from}
 
 module _ (t : Table) (o : Obeys t) where
   cost-over : (i d : ℕ) → best (weight t) 64 i d ≡ cost t i d
@@ -97,5 +97,7 @@ module _ (table : List ℕ) (a : IsAccepted table) (t : Outline) (q : t ≡ outl
       → hops-over (web-weight web) (cost-at costs) i ≡ next-hops (says table) i d
   found-hops = hops-by-costs (says table) o (web-weight web) w
 
-  pub found-sets : (i : ℕ) → sets-from (web-weight web) i ≡ map (next-hops (says table) i) (below 64)
-  found-sets = sets-of-table (says table) o (web-weight web) w
+  -- of what is found from router i the sets are its own for every destination
+  pub found-sets : (i : ℕ) (found : Found) → found ≡ found-from (web-weight web) i → found .sets ≡ map (next-hops (says table) i) (below 64)
+  unfolding found-from
+  found-sets i found f = ap (λ (r : Found). r .sets) f ∙ sets-of-table (says table) o (web-weight web) w i

@@ -9,7 +9,7 @@ use native.Mathlib.Decide.{ℕ-discrete, decLt}
 use native.Mathlib.Omega.{arith}
 use lib.Bits.{bitOr, or-lt, or-zero-r}
 use lib.Count.{trailingZeros}
-use lib.ListN.{length, getD, set, replicate, length-replicate, getD-replicate, List·getD-eq-default}
+use lib.ListN.{length, getD, set, replicate, length-replicate, List·getD-eq-default}
 use lib.Pow.{pow-lt, pow-pos}
 use lib.Seq.{ext-getD, getD-set-other}
 use Rattle.rules.specs.Words.{below}
@@ -23,34 +23,11 @@ use Rattle.rules.proofs.LeastCost.{best-costs, certified-is-best, best-turned}
 use Rattle.rules.proofs.Sets.{set-below, set-has, has-below, trailing, member-below}
 use Rattle.sets.proofs.Members.{own-bit}
 use Rattle.sets.proofs.Bits.{member-weight, others-stay, has-joined}
-use Rattle.search.specs.Search.{costs-from}
-use Rattle.search.specs.Steps.{cost-at, AreCosts, IsNearest, falls, lowered, eased, fallen}
-use Rattle.search.proofs.Keys.{as-read}
+use Rattle.search.specs.Search.{costs-from, cost-at}
+use Rattle.search.specs.Steps.{AreCosts, IsNearest, falls, lowered, eased, fallen}
+use Rattle.search.proofs.Arrays.{cost-top, cost-written, written-costs, no-costs-are, no-cost-at}
+use Rattle.search.proofs.OneLink.{is-cheaper, cheaper-says}
 use Rattle.search.proofs.FirstHops.{turned-net}
-use Rattle.search.proofs.Easing.{is-cheaper, cheaper-says, written-costs, cost-written}
-
--- ---- costs
-
-pub cost-top : (costs : List ℕ) → AreCosts costs → (k : ℕ) → cost-at costs k ≤ no-cost
-cost-top costs a k = go (decLt k 64)
-  where
-    go : Dec (k < 64) → cost-at costs k ≤ no-cost
-    go (yes h) = omega (arith, as-read costs a k h, a .fit k)
-    go (no h) = omega (arith, List·getD-eq-default costs no-cost {n = k} (omega (arith, a .long)))
-
-no-costs-are : AreCosts (replicate 64 no-cost)
-no-costs-are = record { long = length-replicate 64 no-cost; fit = λ k. go k (decLt k 64) }
-  where
-    go : (k : ℕ) → Dec (k < 64) → getD (replicate 64 no-cost) k 0 ≤ no-cost
-    go k (yes h) = omega (arith, getD-replicate 64 k no-cost 0 h)
-    go k (no h) = omega (arith, List·getD-eq-default (replicate 64 no-cost) 0 {n = k} (omega (arith, length-replicate 64 no-cost)))
-
-no-cost-at : (k : ℕ) → cost-at (replicate 64 no-cost) k ≡ no-cost
-no-cost-at k = go (decLt k 64)
-  where
-    go : Dec (k < 64) → cost-at (replicate 64 no-cost) k ≡ no-cost
-    go (yes h) = getD-replicate 64 k no-cost no-cost h
-    go (no h) = List·getD-eq-default (replicate 64 no-cost) no-cost {n = k} (omega (arith, length-replicate 64 no-cost))
 
 -- ---- sums, for the measure
 

@@ -8,10 +8,7 @@ use lib.ListN.{length, getD}
 use Rattle.rules.specs.Words.{_=?_, _<?_, pick, below}
 use Rattle.rules.specs.Costs.{no-cost}
 use Rattle.rules.specs.NextHops.{has, set-of}
-
--- the cost of router k; 4294967295 behind the array's end
-abbrev pub cost-at : List ℕ → ℕ → ℕ
-cost-at costs k = getD costs k no-cost
+use Rattle.search.specs.Search.{cost-at, as-cheap}
 
 -- what the type of the array says: 64 costs of 32 bits
 pub record AreCosts (costs : List ℕ) : Type 0 where
@@ -53,10 +50,7 @@ fallen w costs m = set-of (falls w costs m) 64
 
 -- ---- sets over the links of router m
 
--- over a link of this weight, from a router of this cost, it costs what it costs now; weight 0 is no link
-abbrev pub as-cheap : ℕ → ℕ → ℕ → Bool
-as-cheap weight from now = 0 <? weight && weight + from =? now
-
+-- A first hop to a router is a next hop, for it, of the router that is searched from.
 -- the first hops to a router of this cost: those over such a link alone where it is cheaper, those too where it is as cheap, else those before
 abbrev pub renewed : ℕ → ℕ → ℕ → ℕ → ℕ → ℕ
 renewed weight from now hops over = pick (cheaper weight from now) over (pick (as-cheap weight from now) (bitOr hops over) hops)

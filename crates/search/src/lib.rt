@@ -1,11 +1,11 @@
-// Searching a web from one router: the costs to all others, and the router's next-hop sets for all destinations.
+// Searching a web from one router: the costs to all others, and its next-hop sets for all destinations.
 ghost use mathlib.Core.Path.{_≡_};
 ghost use mathlib.Core.Logic.{_≢_};
 ghost use Prim.Native.Nat.{_+_, _^_, _<_, min};
 ghost use lib.ListN.{getD, set, replicate};
 ghost use Rattle.rules.specs.Words.{pick};
 ghost use Rattle.webs.specs.Webs.{weight-over, web-weight, IsWeb};
-ghost use Rattle.search.specs.Search.{costs-from, sets-from};
+ghost use Rattle.search.specs.Search.{costs-from, found-from};
 ghost use Rattle.search.specs.Steps.{AreCosts, AreSets, IsNearest, cheaper, renewed, eased, fallen, carried};
 use sets::no_sets;
 use webs::Web;
@@ -13,12 +13,23 @@ use webs::Web;
 // What is written where there is no route.
 pub const NO_COST: u32 = 4294967295;
 
+// Above cost × 64 + number of every router.
+const ABOVE_ALL: u64 = 18446744073709551615;
+
+// What a search finds: the cost to each of 64 routers, and the next-hop set for it.
+pub struct Found {
+    pub costs: [u32; 64],
+    pub sets: [u64; 64],
+}
+
+// No cost to any router.
 fn no_costs() -> [u32; 64]
     ensures { λ r. ⌜ r ≡ replicate 64 4294967295 ⌝ }
 {
     [NO_COST; 64]
 }
 
+// The smaller of two numbers.
 fn smaller(a: u64, b: u64) -> u64
     ensures { λ r. ⌜ r ≡ min a b ⌝ }
 {
@@ -28,12 +39,12 @@ fn smaller(a: u64, b: u64) -> u64
     a
 }
 
-// The nearest router of a set: cost and number are compared as one number.
-fn nearest<'a>(costs: &'a [u32; 64], waiting: u64) -> usize
+// The nearest router of a set: cost and number are compared as one number, cost × 64 + number.
+fn nearest(costs: &[u32; 64], waiting: u64) -> usize
     requires { ⌜ (waiting ≢ 0) × AreCosts (now costs) ⌝ }
     ensures { λ r. ⌜ IsNearest (now (costs .entry)) waiting r ⌝ }
 {
-    let mut least = 18446744073709551615;
+    let mut least = ABOVE_ALL;
     let mut rest = waiting;
     while rest != 0 {
         let k = u64::trailing_zeros(rest) as usize;
@@ -43,8 +54,8 @@ fn nearest<'a>(costs: &'a [u32; 64], waiting: u64) -> usize
     (least % 64) as usize
 }
 
-// The cost of router k over a link of this weight from a router of this cost, where that is cheaper; then the answer is k's bit. Nothing is added to
-// a cost in 32 bits.
+// Router k's cost becomes that over a link of this weight from a router of the cost `from`, where that is cheaper; the answer is then k's bit, else 0.
+// The sum is made in 64 bits.
 fn ease_one(costs: &mut [u32; 64], k: usize, weight: u16, from: u32) -> u64
     requires { ⌜ (k < 64) × AreCosts (now costs) ⌝ }
     ensures { λ r. ⌜
@@ -114,7 +125,7 @@ fn handed(own: bool, hops: u64, k: usize) -> u64
 }
 
 // The cost of router k over a link of this weight from a router of this cost, and its first hops: those over the link alone where that is cheaper,
-// those too where it is as cheap. Where the cost fell the answer is k's bit. Nothing is added to a cost in 32 bits.
+// those too where it is as cheap. The answer is k's bit where its cost fell, else 0. The sum is made in 64 bits.
 fn reach_one(
     costs: &mut [u32; 64],
     sets: &mut [u64; 64],
@@ -180,16 +191,16 @@ fn reach<'a>(
     fallen
 }
 
-// The next-hop sets of a router for each of 64 destinations, by the search for its costs: the nearest waiting router passes its first hops on with
-// its cost.
-pub fn sets_from(web: Web, router: u8) -> [u64; 64]
-    ensures { λ r. ⌜ r ≡ sets-from (web-weight web) router ⌝ }
+// The costs from a router to each of 64 routers, and its next-hop sets for them, by one search: the nearest waiting router passes its first hops on
+// with its cost.
+pub fn all_from(web: Web, router: u8) -> Found
+    ensures { λ r. ⌜ r ≡ found-from (web-weight web) router ⌝ }
 {
+    let mut costs = no_costs();
     let mut sets = no_sets();
     if 64 <= router {
-        return sets;
+        return Found { costs, sets };
     }
-    let mut costs = no_costs();
     costs[router as usize] = 0;
     let mut waiting = 1u64 << router;
     while waiting != 0 {
@@ -197,5 +208,5 @@ pub fn sets_from(web: Web, router: u8) -> [u64; 64]
         let fallen = reach(&web.near, &web.weights, router, m, &mut costs, &mut sets);
         waiting = (waiting - (1u64 << m)) | fallen;
     }
-    sets
+    Found { costs, sets }
 }

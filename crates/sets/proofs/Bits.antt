@@ -1,13 +1,13 @@
--- Sets as numbers, changed: a member taken out, two sets joined, what two sets have in common, the lowest member taken out by `set & (set - 1)`.
+-- Sets as numbers, changed: a member taken out, two sets joined, the lowest member taken out by `set & (set - 1)`.
 -- Assumes nothing.
 use mathlib.Core.Path.{_≡_, refl, sym, _∙_, ap}
 use mathlib.Core.Logic.{_≢_}
-use mathlib.Core.Bool.{Bool, true, false, _&&_, _||_, false≢true}
-use Prim.Native.Nat.{ℕ, zero, suc, _+_, _-_, _/_, _%_, _^_, _≤_, _<_, min, max}
+use mathlib.Core.Bool.{Bool, true, false, _||_, false≢true}
+use Prim.Native.Nat.{ℕ, zero, suc, _+_, _-_, _/_, _%_, _^_, _≤_, _<_, max}
 use native.Mathlib.Nat.{pow-suc}
 use native.Mathlib.Omega.{arith}
 use lib.Dec.{eqb}
-use lib.Bits.{bitAnd, bitOr, and-step, or-step, and-shr, or-shr, and-self, and-mask}
+use lib.Bits.{bitAnd, bitOr, and-step, or-step, or-shr, and-self, and-mask}
 use lib.Count as C
 use lib.Count.{trailingZeros}
 use Rattle.rules.specs.Words.{pick}
@@ -62,34 +62,27 @@ others-stay (suc k) set (suc j) e a =
 
 -- ---- two sets joined
 
--- two lowest digits, joined or in common
-digits : (x y : ℕ) → (eqb (bitOr x y % 2) 1 ≡ (eqb (x % 2) 1 || eqb (y % 2) 1)) × (eqb (bitAnd x y % 2) 1 ≡ (eqb (x % 2) 1 && eqb (y % 2) 1))
+-- two lowest digits
+digits : (x y : ℕ) → eqb (bitOr x y % 2) 1 ≡ (eqb (x % 2) 1 || eqb (y % 2) 1)
 digits x y = go (x % 2) (y % 2) refl refl
   where
-    go : (c d : ℕ) → x % 2 ≡ c → y % 2 ≡ d → (eqb (bitOr x y % 2) 1 ≡ (eqb c 1 || eqb d 1)) × (eqb (bitAnd x y % 2) 1 ≡ (eqb c 1 && eqb d 1))
+    low : (c d : ℕ) → c < 2 → d < 2 → eqb (max c d) 1 ≡ (eqb c 1 || eqb d 1)
+    low zero zero p q = refl
+    low zero (suc zero) p q = refl
+    low (suc zero) zero p q = refl
+    low (suc zero) (suc zero) p q = refl
+    low (suc (suc c)) d p q = absurd (omega arith)
+    low zero (suc (suc d)) p q = absurd (omega arith)
+    low (suc zero) (suc (suc d)) p q = absurd (omega arith)
+
+    go : (c d : ℕ) → x % 2 ≡ c → y % 2 ≡ d → eqb (bitOr x y % 2) 1 ≡ (eqb c 1 || eqb d 1)
     go c d p q =
         let o : bitOr x y % 2 ≡ max c d = omega (arith, or-step x y) in
-        let n : bitAnd x y % 2 ≡ min c d = omega (arith, and-step x y) in
-        let s = low c d (omega arith) (omega arith) in
-        (ap (λ n. eqb n 1) o ∙ s .0, ap (λ n. eqb n 1) n ∙ s .1)
-      where
-        low : (c d : ℕ) → c < 2 → d < 2 → (eqb (max c d) 1 ≡ (eqb c 1 || eqb d 1)) × (eqb (min c d) 1 ≡ (eqb c 1 && eqb d 1))
-        low zero zero p q = (refl, refl)
-        low zero (suc zero) p q = (refl, refl)
-        low (suc zero) zero p q = (refl, refl)
-        low (suc zero) (suc zero) p q = (refl, refl)
-        low (suc (suc c)) d p q = absurd (omega arith)
-        low zero (suc (suc d)) p q = absurd (omega arith)
-        low (suc zero) (suc (suc d)) p q = absurd (omega arith)
+        ap (λ n. eqb n 1) o ∙ low c d (omega arith) (omega arith)
 
 pub has-joined : (k a b : ℕ) → has (bitOr a b) k ≡ (has a k || has b k)
 unfolding has
-has-joined k a b = ap (λ n. eqb (n % 2) 1) (or-shr a b k) ∙ digits (a / 2 ^ k) (b / 2 ^ k) .0
-
--- the members that two sets have in common
-pub has-met : (k a b : ℕ) → has (bitAnd a b) k ≡ (has a k && has b k)
-unfolding has
-has-met k a b = ap (λ n. eqb (n % 2) 1) (and-shr a b k) ∙ digits (a / 2 ^ k) (b / 2 ^ k) .1
+has-joined k a b = ap (λ n. eqb (n % 2) 1) (or-shr a b k) ∙ digits (a / 2 ^ k) (b / 2 ^ k)
 
 -- ---- the lowest member taken out
 

@@ -1,10 +1,10 @@
--- Sets that are known by their members: none, one router, all 64, one more member, and the set of a test.
+-- Sets that are known by their members: none, one router, one more member, and the set of a test.
 -- Assumes nothing.
 use mathlib.Core.Path.{_≡_, refl, sym, _∙_, ap, ap₂}
 use mathlib.Core.Logic.{_≢_}
 use mathlib.Core.Bool.{Bool, true, false, _||_, or-true, or-false, false≢true}
-use Prim.Native.Nat.{ℕ, zero, suc, _+_, _-_, _*_, _/_, _%_, _^_, _<_}
-use native.Mathlib.Nat.{one-mul, mod-eq-of-lt, pow-suc}
+use Prim.Native.Nat.{ℕ, zero, suc, _-_, _*_, _/_, _%_, _^_, _<_}
+use native.Mathlib.Nat.{one-mul, mod-eq-of-lt}
 use native.Mathlib.Decide.{ℕ-discrete}
 use native.Mathlib.Omega.{arith}
 use lib.Bits.{bitOr, or-lt}
@@ -62,15 +62,3 @@ with-member p q n b l here there =
     go : (k : ℕ) → k < n → Dec (k ≡ b) → (has (set-of p n) k || has (2 ^ b) k) ≡ q k
     go k m (yes e) = rw e (ap (λ t. has (set-of p n) b || t) (own-bit b) ∙ or-true (has (set-of p n) b) ∙ sym here)
     go k m (no a) = ap₂ (λ s t. s || t) (set-has p n k m) (no-other-bit b k a) ∙ or-false (p k) ∙ sym (there k a)
-
--- ---- all 64 routers
-
-all-routers : (n : ℕ) → set-of (λ j. true) n + 1 ≡ 2 ^ n
-unfolding set-of
-all-routers zero = refl
-all-routers (suc n) = omega (arith, pow-suc 2 n, all-routers n)
-
-pub every-router : (k : ℕ) → k < 64 → has 18446744073709551615 k ≡ true
-every-router k h =
-    let e : 18446744073709551615 ≡ set-of (λ j. true) 64 = omega (arith, all-routers 64) in
-    ap (λ n. has n k) e ∙ set-has (λ j. true) 64 k h

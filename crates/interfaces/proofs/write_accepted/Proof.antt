@@ -1,41 +1,42 @@
 -- `interfaces::write_accepted` meets its contract.
 -- Assumes nothing.
+use Rattle.tables.proofs.Asked.{few-routers}
+use Rattle.interfaces.proofs.Cells.{own-sets-are, rows-of-table}
 use borrow.Author.Needs.{needs}
-use Rattle.interfaces.proofs.Cells.{sets-fit-rows, rows-of-table}
 use Rattle.interfaces.proofs.write_accepted.Statement.{statement}
 use Rattle.interfaces.proofs.write_accepted.Tie as tie
 
 web-of-requires : tie.Need-web-of-requires
 web-of-requires c κs = search needs
 
-sets-from-requires : tie.Need-sets-from-requires
-sets-from-requires c κs = search needs
+all-from-requires : tie.Need-all-from-requires
+all-from-requires c κs = search needs
 
 cast-write-rows : tie.Need-cast-write-rows
 cast-write-rows c = search needs
 
 write-rows-requires : tie.Need-write-rows-requires
 write-rows-requires c κs =
-    let m = c .before .before in
+    let m = c .before .before .before .before in
     let p = m .before .before .before .before .pre in
-    let f = sets-fit-rows _ (p .0) _ (p .1) _ (m .before .web-of .ensures) _ _ (m .sets-from .ensures) (p .2) in
-    (f .0, p .2, f .1, p .3)
+    let o = own-sets-are _ (p .0) _ (p .1) _ (m .before .web-of .ensures) _ _ (m .all-from .ensures) (p .2) in
+    (few-routers _ (p .0) _ (p .1), p .2, o, p .3)
 
 same-length : tie.Need-same-length
 same-length c = search needs
 
 returns : tie.Need-returns
 returns c =
-    let m = c .before .before .before .before .before in
+    let m = c .before .before .before .before .before .before .before in
     let p = m .before .before .before .before .pre in
-    rows-of-table _ (p .0) _ (p .1) _ (m .before .web-of .ensures) _ _ (m .sets-from .ensures) _ _ (c .before .before .write-rows .ensures)
+    rows-of-table _ (p .0) _ (p .1) _ (m .before .web-of .ensures) _ _ (m .all-from .ensures) _ _ (c .before .before .write-rows .ensures)
 
 pub write-accepted-spec : {M : Type 1} → statement M
 write-accepted-spec =
     tie.close
     (tie.spec
     web-of-requires
-    sets-from-requires
+    all-from-requires
     cast-write-rows
     write-rows-requires
     same-length

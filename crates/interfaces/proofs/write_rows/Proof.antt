@@ -3,10 +3,7 @@
 use mathlib.Core.Path.{sym}
 use Prim.Native.Nat.{_-_}
 use native.Mathlib.Omega.{arith}
-use lib.ListN.{getD}
 use lib.Seq.{length-take-le}
-use mir.Syntax.{w64}
-use mir.Val.{Fits}
 use borrow.Author.Needs.{needs}
 use Rattle.interfaces.specs.Interfaces.{cell-by}
 use Rattle.interfaces.proofs.Rows.{Rowed, row-started, rows-long, rows-ended, row-room, row-long, row-written}
@@ -15,10 +12,10 @@ use Rattle.interfaces.proofs.write_rows.Statement.{statement}
 use Rattle.interfaces.proofs.write_rows.Tie as tie
 
 abbrev Inv-loop : tie.InvT-loop
-Inv-loop n router out₀ sets codes members start₀ previous₀ out start previous = Rowed (cell-by sets router) n out₀ out previous start
+Inv-loop n router sets out₀ codes members start₀ previous₀ out start previous = Rowed (cell-by sets router) n out₀ out previous start
 
 abbrev μ-loop : tie.MeasureT-loop
-μ-loop n router out₀ sets codes members start₀ previous₀ out start previous = n - previous
+μ-loop n router sets out₀ codes members start₀ previous₀ out start previous = n - previous
 
 start-codes-requires : tie.Need-start-codes-requires Inv-loop μ-loop
 start-codes-requires c κs = search needs
@@ -31,19 +28,19 @@ slice-relend-prefix-write-start c = omega arith
 
 slice-aggregate-write-start : tie.Need-slice-aggregate-write-start Inv-loop μ-loop
 slice-aggregate-write-start c =
-    let s = c .before .before .before .before .before .before .before in
+    let s = c .before .before .before .before .before in
     sym (length-take-le (s .args .n) (s .args .out .now) (omega arith))
 
 write-start-requires : tie.Need-write-start-requires Inv-loop μ-loop
 write-start-requires c κs =
-    let s = c .before .before .before .before .before .before .before in
+    let s = c .before .before .before .before .before in
     omega (arith, length-take-le (s .args .n) (s .args .out .now) (omega arith))
 
 loop-holds : tie.Need-loop-holds Inv-loop μ-loop
 loop-holds c =
     let w = c .before .before in
-    let m = w .before .before .before .before .before in
-    let p = m .before .before .before .pre in
+    let m = w .before .before .before .before in
+    let p = m .before .before .pre in
     let e = start-row _ _ _ (m .start-codes .ensures) _ _ _ (p .0) (p .1) (p .3) (w .write-start .ensures) in
     row-started _ _ _ _ e (p .3)
 
@@ -57,19 +54,18 @@ part-write-row-start : tie.Need-part-write-row-start Inv-loop μ-loop
 part-write-row-start c = omega arith
 
 part-write-row-end : tie.Need-part-write-row-end Inv-loop μ-loop
-part-write-row-end c = row-room _ _ _ _ _ _ (c .before .before .before .loop .inv) (c .before .before .loop-test .taken)
+part-write-row-end c = row-room _ _ _ _ _ _ (c .before .before .loop .inv) (c .before .loop-test .taken)
 
 write-row-requires : tie.Need-write-row-requires Inv-loop μ-loop
 write-row-requires c κs =
-    let l = c .before .before .before .before in
+    let l = c .before .before .before in
     let a = l .before .before .before .before .before .before in
-    let m = a .before .before in
-    let s = m .before .before .before in (
-      record { fit = λ d. (let f : Fits w64 (getD (s .args .t3) d 0) = search needs in omega arith); own = s .pre .2 },
+    let m = a .before in (
+      m .before .before .pre .2,
       a .all-members .ensures,
       m .start-codes .ensures,
       omega arith,
-      omega (arith, row-long _ _ _ _ _ _ (l .loop .inv) (c .before .before .before .loop-test .taken)),
+      omega (arith, row-long _ _ _ _ _ _ (l .loop .inv) (c .before .before .loop-test .taken)),
     )
 
 add-previous : tie.Need-add-previous Inv-loop μ-loop
@@ -80,22 +76,22 @@ loop-less c = omega arith
 
 loop-again : tie.Need-loop-again Inv-loop μ-loop
 loop-again c =
-    let l = c .before .before .before .before .before .before .before in
-    row-written _ _ _ _ _ _ (l .loop .inv) (c .before .before .before .before .before .before .loop-test .taken) _ (c .before .before .write-row .ensures)
+    let l = c .before .before .before .before .before .before in
+    row-written _ _ _ _ _ _ (l .loop .inv) (c .before .before .before .before .before .loop-test .taken) _ (c .before .before .write-row .ensures)
 
 same-length : tie.Need-same-length Inv-loop μ-loop
 same-length c =
     let w = c .before .before .before .before in
-    let m = w .before .before .before .before .before in
-    let p = m .before .before .before .pre in
+    let m = w .before .before .before .before in
+    let p = m .before .before .pre in
     let e = start-row _ _ _ (m .start-codes .ensures) _ _ _ (p .0) (p .1) (p .3) (w .write-start .ensures) in
     rows-long _ _ _ _ e _ _ _ (c .before .loop .inv) (p .3)
 
 returns : tie.Need-returns Inv-loop μ-loop
 returns c =
     let w = c .before .before .before .before in
-    let m = w .before .before .before .before .before in
-    let p = m .before .before .before .pre in
+    let m = w .before .before .before .before in
+    let p = m .before .before .pre in
     let e = start-row _ _ _ (m .start-codes .ensures) _ _ _ (p .0) (p .1) (p .3) (w .write-start .ensures) in
     rows-ended _ _ _ _ e _ _ _ (c .before .loop .inv) (c .loop-test .left)
 

@@ -9,8 +9,7 @@ use lib.ListN.{length, getD}
 use borrow.Author.Needs.{needs}
 use Rattle.webs.specs.Webs.{web-weight}
 use Rattle.webs.proofs.Webs.{is-web}
-use Rattle.search.specs.Steps.{cost-at}
-use Rattle.search.specs.Search.{hops-over}
+use Rattle.search.specs.Search.{cost-at, hops-over}
 use Rattle.rules.proofs.PlaceByPlace.{Filled, none-filled, one-filled, all-of-filled}
 use Rattle.routes.proofs.sets_by.Statement.{statement}
 use Rattle.routes.proofs.sets_by.Tie as tie

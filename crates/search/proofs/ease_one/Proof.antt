@@ -5,7 +5,7 @@ use native.Mathlib.Omega.{arith}
 use borrow.Author.Needs.{needs}
 use Rattle.rules.proofs.Basics.{pick-t, pick-f}
 use Rattle.sets.proofs.Members.{one-bit}
-use Rattle.search.proofs.Easing.{is-cheaper, no-link, no-cheaper}
+use Rattle.search.proofs.OneLink.{is-cheaper, no-link, no-cheaper}
 use Rattle.search.proofs.ease_one.Statement.{statement}
 use Rattle.search.proofs.ease_one.Tie as tie
 
