@@ -31,6 +31,7 @@ const DISCARD: u8 = 129;
 // What stands in the whole row of the router itself.
 const OWN_ROW: u8 = 131;
 
+// 64 codes that are not worked out yet.
 fn no_codes() -> [u8; 64]
     ensures { λ r. ⌜ r ≡ replicate 64 0 ⌝ }
 {

@@ -197,6 +197,16 @@ best-turned w (suc m) i d =
 pub best-routers : {m n : ℕ} {w : ℕ → ℕ → ℕ} → Net m w → Net n w → (i d : ℕ) → best w m i d ≡ best w n i d
 best-routers {m} {n} {w} 𝓜 𝓝 i d = one-least-cost w i d (best w m i d) (best w n i d) (best-is-least 𝓜 d i) (best-is-least 𝓝 d i)
 
+-- a number that is no router's has a route to itself only
+pub out-of-reach : {n : ℕ} {w : ℕ → ℕ → ℕ} → Net n w → (i d : ℕ) → n ≤ i → i ≢ d → best w n i d ≡ no-cost
+out-of-reach {n} {w} 𝓝 i d h a = go (decLt (best w n i d) no-cost)
+  where
+    go : Dec (best w n i d < no-cost) → best w n i d ≡ no-cost
+    go (yes f) =
+        let (k, s) = best-costs 𝓝 d .tight i a f in
+        absurd (omega (arith, 𝓝 .inside i k (s .link) .0))
+    go (no f) = omega (arith, best-top 𝓝 d i)
+
 -- ---- the theorems
 
 -- the cost of a table obeys the laws

@@ -15,7 +15,7 @@ use Rattle.rules.specs.Costs.{best, cost, no-cost}
 use Rattle.rules.specs.NextHops.{set-of, leads, next-hops}
 use Rattle.rules.proofs.Basics.{value-at, value-behind}
 use Rattle.rules.proofs.Weights.{net, wide}
-use Rattle.rules.proofs.LeastCost.{best-routers, cost-laws, costs-hold-both-ways}
+use Rattle.rules.proofs.LeastCost.{best-routers, costs-hold-both-ways, out-of-reach}
 use Rattle.rules.specs.Table.{says}
 use Rattle.rules.specs.Demand1.{IsAccepted}
 use Rattle.rules.proofs.Acceptance.{obeys}
@@ -35,13 +35,7 @@ module _ (t : Table) (o : Obeys t) where
 
   -- no router that a table lacks has a route to one of its own
   beyond : (k d : ℕ) → d < 64 → 64 ≤ k → cost t k d ≡ no-cost
-  beyond k d b h = go (decLt (cost t k d) no-cost)
-    where
-      go : Dec (cost t k d < no-cost) → cost t k d ≡ no-cost
-      go (yes f) =
-          let (z, s) = cost-laws t o d .tight k (omega arith) f in
-          absurd (omega (arith, wide t o .inside k z (s .link)))
-      go (no f) = omega (arith, cost-laws t o d .top k)
+  beyond k d b h = sym (cost-over k d) ∙ out-of-reach (wide t o) k d h (omega arith)
 
   module _ (w : ℕ → ℕ → ℕ) (q : w ≡ weight t) where
     -- the costs from a destination are the costs to it

@@ -19,7 +19,7 @@ use Rattle.rules.specs.NextHops.{has}
 use Rattle.rules.specs.Demand2.{Certified}
 use Rattle.rules.proofs.Basics.{any-default, neither, pick-t, pick-f, value-at, length-values}
 use Rattle.rules.proofs.CostLaws.{Net}
-use Rattle.rules.proofs.LeastCost.{best-costs, certified-is-best, best-turned}
+use Rattle.rules.proofs.LeastCost.{certified-is-best, best-turned, out-of-reach}
 use Rattle.rules.proofs.Sets.{set-below, set-has, has-below, trailing, member-below}
 use Rattle.sets.proofs.Members.{own-bit}
 use Rattle.sets.proofs.Bits.{member-weight, others-stay, has-joined}
@@ -266,11 +266,5 @@ module _ (w : ℕ → ℕ → ℕ) (𝓝 : Net 64 w) (s : ℕ) where
       ext-getD no-cost (replicate 64 no-cost) _ (length-replicate 64 no-cost ∙ sym (length-values (best w 64 s) 64))
       (λ i l. at i (omega (arith, length-replicate 64 no-cost)))
     where
-      none : (i : ℕ) → i < 64 → Dec (best w 64 s i < no-cost) → best w 64 s i ≡ no-cost
-      none i b (yes f) =
-          let (k, n) = best-costs 𝓝 i .tight s (omega arith) f in
-          absurd (omega (arith, 𝓝 .inside s k (n .link) .0))
-      none i b (no f) = omega (arith, best-costs 𝓝 i .top s)
-
       at : (i : ℕ) → i < 64 → cost-at (replicate 64 no-cost) i ≡ cost-at (map (best w 64 s) (below 64)) i
-      at i b = no-cost-at i ∙ sym (none i b (decLt (best w 64 s i) no-cost)) ∙ sym (value-at (best w 64 s) 64 i no-cost b)
+      at i b = no-cost-at i ∙ sym (out-of-reach 𝓝 s i h (omega arith)) ∙ sym (value-at (best w 64 s) 64 i no-cost b)

@@ -48,9 +48,8 @@ eased w costs m = map (lowered w costs m) (below 64)
 unfoldable pub fallen : (ℕ → ℕ → ℕ) → List ℕ → ℕ → ℕ
 fallen w costs m = set-of (falls w costs m) 64
 
--- ---- sets over the links of router m
+-- ---- sets over the links of router m; a first hop to a router is a next hop, for it, of the router that is searched from
 
--- A first hop to a router is a next hop, for it, of the router that is searched from.
 -- the first hops to a router of this cost: those over such a link alone where it is cheaper, those too where it is as cheap, else those before
 abbrev pub renewed : ℕ → ℕ → ℕ → ℕ → ℕ → ℕ
 renewed weight from now hops over = pick (cheaper weight from now) over (pick (as-cheap weight from now) (bitOr hops over) hops)
