@@ -35,10 +35,11 @@ pub record OwnSets (sets : List ℕ) (i : ℕ) : Type 0 where
   pub fit : (d : ℕ) → getD sets d 0 < 2 ^ 64
   pub own : getD sets i 0 ≡ 0
 
--- router i, previous hop j, destination d
+-- the code of router i's entry for previous hop j and destination d, by its set for d
 unfoldable pub code-by : List ℕ → ℕ → ℕ → ℕ → ℕ
 code-by sets i j d = code (entry-by (rules-by (getD sets d 0)) i j d)
 
+-- the cell: 131 in the router's own row, else that code
 unfoldable pub cell-by : List ℕ → ℕ → ℕ → ℕ → ℕ
 cell-by sets i j d = pick (i =? j) 131 (code-by sets i j d)
 

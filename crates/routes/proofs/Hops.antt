@@ -23,7 +23,7 @@ use Rattle.webs.proofs.Webs.{weight-there, weight-none}
 use Rattle.search.specs.Search.{as-cheap, hops-over, cost-at}
 use Rattle.search.specs.Steps.{AreCosts}
 use Rattle.search.proofs.Arrays.{as-read}
-use Rattle.search.proofs.OneLink.{not-linked}
+use Rattle.search.proofs.OneLink.{no-link-as-cheap}
 
 -- ---- the bit of one neighbour
 
@@ -33,7 +33,7 @@ module _ (k weight there here : ℕ) where
   bit = pick (as-cheap weight there here) (2 ^ k) 0
 
   pub bit-unlinked : weight ≡ 0 → 0 ≡ bit
-  bit-unlinked e = sym (pick-f _ _ _ (not-linked weight there here e))
+  bit-unlinked e = sym (pick-f _ _ _ (no-link-as-cheap weight there here e))
 
   -- the test's outcome, as a bit moved to k
   moved : k < 64 → (t : Bool) → (boolByte t * 2 ^ k) % 18446744073709551616 ≡ pick t (2 ^ k) 0
@@ -52,7 +52,7 @@ module _ (near weights costs : List ℕ) (i : ℕ) where
 
   -- no link leads to a router whose bit is not set
   unlinked : (k : ℕ) → has (getD near i 0) k ≡ false → hop k ≡ false
-  unlinked k e = not-linked _ _ _ (weight-none near weights i k e)
+  unlinked k e = no-link-as-cheap _ _ _ (weight-none near weights i k e)
 
   -- behind the last router there is no next hop
   pub no-hops : length near ≡ 64 → 64 ≤ i → 0 ≡ hops-over (weight-over near weights) (cost-at costs) i

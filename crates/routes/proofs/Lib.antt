@@ -1,4 +1,4 @@
 pub mod Answers
-pub mod Found
+pub mod HandedOver
 pub mod Hops
 pub mod Settled

@@ -2,7 +2,7 @@
 ghost use mathlib.Core.Path.{_≡_};
 ghost use mathlib.Core.Bool.{_||_};
 ghost use mathlib.Core.List.{_++_, map};
-ghost use Prim.Native.Nat.{_+_, _^_, _<_, _≤_};
+ghost use Prim.Native.Nat.{_^_, _<_, _≤_};
 ghost use lib.ListN.{length, take, drop};
 ghost use Rattle.rules.specs.Words.{_<?_, pick, below};
 ghost use Rattle.rules.specs.Table.{says};
@@ -28,7 +28,7 @@ pub enum Filling {
     Refused { number: u8, place: usize },
 }
 
-// Router k's bit, if a link of this weight leads from a router of the cost `here` on to k.
+// Router k's bit where the weight and k's cost `there` make the cost `here`, else 0; weight 0 is no link.
 fn leads(k: usize, weight: u16, there: u32, here: u32) -> u64
     requires { ⌜ k < 64 ⌝ }
     ensures { λ r. ⌜ r ≡ pick (as-cheap weight there here) (2 ^ k) 0 ⌝ }

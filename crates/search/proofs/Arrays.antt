@@ -56,5 +56,5 @@ module _ (sets : List ℕ) (e : sets ≡ replicate 64 0) where
   pub empty-are : AreSets sets
   empty-are = rw e (record { long = refl; fit = λ k. omega (arith, same-everywhere {A = ℕ} 0 64 k) })
 
-  pub empty-sets : (k j : ℕ) → has (getD sets k 0) j ≡ false
-  empty-sets k j = ap (λ l. has (getD l k 0) j) e ∙ ap (λ n. has n j) (same-everywhere 0 64 k) ∙ nobody j
+  pub none-inside : (k j : ℕ) → has (getD sets k 0) j ≡ false
+  none-inside k j = ap (λ l. has (getD l k 0) j) e ∙ ap (λ n. has n j) (same-everywhere 0 64 k) ∙ nobody j

@@ -23,7 +23,7 @@ use Rattle.webs.proofs.Webs.{weight-there, weight-none}
 use Rattle.search.specs.Steps.{AreSets, cheaper, renewed, handed, hops-after, carried}
 use Rattle.search.specs.Search.{cost-at, as-cheap}
 use Rattle.search.proofs.Arrays.{as-read}
-use Rattle.search.proofs.OneLink.{no-link, is-cheaper, no-cheaper, not-linked, is-as-cheap, not-as-cheap}
+use Rattle.search.proofs.OneLink.{no-link-cheaper, is-cheaper, no-cheaper, no-link-as-cheap, is-as-cheap, not-as-cheap}
 use Rattle.search.proofs.FirstHops.{First}
 use Rattle.search.proofs.Easing.{Eased, cost-now}
 
@@ -45,7 +45,7 @@ pub data Renewal (weight from now hops over after : ℕ) : Type 0 where
 
 module _ (weight from now hops over : ℕ) where
   renewed-unlinked : weight ≡ 0 → renewed weight from now hops over ≡ hops
-  renewed-unlinked e = pick-f _ _ _ (no-link weight from now e) ∙ pick-f _ _ _ (not-linked weight from now e)
+  renewed-unlinked e = pick-f _ _ _ (no-link-cheaper weight from now e) ∙ pick-f _ _ _ (no-link-as-cheap weight from now e)
 
   renewed-cheaper : cheaper weight from now ≡ true → renewed weight from now hops over ≡ over
   renewed-cheaper f = pick-t _ _ _ f
@@ -70,7 +70,7 @@ module _ (weight from now hops over : ℕ) where
     where
       go : Dec (0 < weight) → Dec (weight + from < now) → Dec (weight + from ≡ now)
           → Renewal weight from now hops over (renewed weight from now hops over)
-      go (no l) d e = kept (no-link weight from now (omega arith)) (λ h. absurd (l h)) (renewed-unlinked (omega arith))
+      go (no l) d e = kept (no-link-cheaper weight from now (omega arith)) (λ h. absurd (l h)) (renewed-unlinked (omega arith))
       go (yes l) (yes u) e =
           let f = is-cheaper weight from now (omega arith) u in
           anew f (renewed-cheaper f)
@@ -147,7 +147,7 @@ module _ {w : ℕ → ℕ → ℕ} (𝓝 : Net 64 w) (costs : List ℕ) (i : ℕ
       go (yes h) d = rw (inside k h) (which (w m k) (cost-at costs m) (cost-at costs k) (getD sets k 0) (handed sets i m k))
       go (no h) (yes l) = absurd (omega (arith, 𝓝 .inside m k l .1))
       go (no h) (no l) =
-          kept (no-link (w m k) (cost-at costs m) (cost-at costs k) (omega arith)) (λ l′. absurd (l l′))
+          kept (no-link-cheaper (w m k) (cost-at costs m) (cost-at costs k) (omega arith)) (λ l′. absurd (l l′))
           (behind k (omega arith) ∙ sym (List·getD-eq-default sets 0 (omega (arith, a .long))))
 
 -- ---- the walk

@@ -20,7 +20,7 @@ use Rattle.webs.proofs.Webs.{weight-there, weight-none}
 use Rattle.search.specs.Steps.{AreCosts, cheaper, falls, lowered, eased, fallen}
 use Rattle.search.specs.Search.{cost-at}
 use Rattle.search.proofs.Arrays.{as-read, cost-written, written-costs}
-use Rattle.search.proofs.OneLink.{no-link, cheaper-says}
+use Rattle.search.proofs.OneLink.{no-link-cheaper, cheaper-says}
 
 -- ---- the walk
 
@@ -39,7 +39,7 @@ module _ (near weights : List ℕ) (m : ℕ) (old : List ℕ) where
 
   -- no cost falls where there is no link
   unlinked : (j : ℕ) → has (getD near m 0) j ≡ false → falls w old m j ≡ false
-  unlinked j e = no-link _ _ _ (weight-none near weights m j e)
+  unlinked j e = no-link-cheaper _ _ _ (weight-none near weights m j e)
 
   pub none-eased : IsWeb near weights → m < 64 → AreCosts old → Eased near weights m old old 0 (getD near m 0) 0
   none-eased b h a = record {

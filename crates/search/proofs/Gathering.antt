@@ -20,7 +20,7 @@ use Rattle.sets.proofs.Members.{nobody, set-by}
 use Rattle.search.specs.Search.{as-cheap, costs-from, hops-over, sets-from, found-from, cost-at}
 use Rattle.search.specs.declared.Found.{Found}
 use Rattle.search.specs.Steps.{AreSets, IsNearest, falls, handed, eased, fallen, carried}
-use Rattle.search.proofs.Arrays.{cost-top, empty-are, empty-sets}
+use Rattle.search.proofs.Arrays.{cost-top, empty-are, none-inside}
 use Rattle.search.proofs.OneLink.{cheaper-says, is-as-cheap, as-cheap-says}
 use Rattle.search.proofs.FirstHops.{FirstHop, First, first-so, last-first, first-last}
 use Rattle.search.proofs.Searching.{Waiting, stays, fell, no-higher, first-step, first-others, least-found}
@@ -46,7 +46,7 @@ pub none-gathered : (w : ℕ → ℕ → ℕ) (s : ℕ) → s < 64 → (none : L
 none-gathered w s h none n bit b sets e = record {
   are = empty-are sets e;
   nearer = λ x y a f t. absurd (omega (arith, far x a));
-  sound = λ k j t. absurd (false≢true (sym (empty-sets sets e k j) ∙ t));
+  sound = λ k j t. absurd (false≢true (sym (none-inside sets e k j) ∙ t));
   whole = λ p k j v. absurd (omega (arith, v .link, v .sums, far p (v .passed), cost-top (set none s 0) (o .are) k));
 }
   where
@@ -322,7 +322,7 @@ module _ {w : ℕ → ℕ → ℕ} (𝓝 : Net 64 w) (s : ℕ) where
   pub no-router : (sets : List ℕ) → sets ≡ replicate 64 0 → 64 ≤ s → sets ≡ sets-from w s
   no-router sets e h =
       by-members sets (empty-are sets e)
-      (λ d j. (λ t. absurd (false≢true (sym (empty-sets sets e d j) ∙ t)), λ f. absurd (omega (arith, 𝓝 .inside s j (f .link) .0))))
+      (λ d j. (λ t. absurd (false≢true (sym (none-inside sets e d j) ∙ t)), λ f. absurd (omega (arith, 𝓝 .inside s j (f .link) .0))))
 
 -- costs and sets together
 pub both-found : (w : ℕ → ℕ → ℕ) (s : ℕ) (costs sets : List ℕ) → costs ≡ costs-from w s → sets ≡ sets-from w s

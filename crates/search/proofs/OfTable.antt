@@ -33,7 +33,7 @@ module _ (t : Table) (o : Obeys t) where
   unfolding cost
   cost-over i d = best-routers (wide t o) (net t o) i d
 
-  -- no router that a table lacks has a route to one of its own
+  -- no number from 64 on has a route to one below
   beyond : (k d : ℕ) → d < 64 → 64 ≤ k → cost t k d ≡ no-cost
   beyond k d b h = sym (cost-over k d) ∙ out-of-reach (wide t o) k d h (omega arith)
 

@@ -20,8 +20,8 @@ second-fails true t e = e
 second-fails false t e = refl
 
 module _ (weight from now : ℕ) where
-  pub no-link : weight ≡ 0 → cheaper weight from now ≡ false
-  no-link e = first-fails weight (ltb (weight + from) now) e
+  pub no-link-cheaper : weight ≡ 0 → cheaper weight from now ≡ false
+  no-link-cheaper e = first-fails weight (ltb (weight + from) now) e
 
   pub is-cheaper : weight ≢ 0 → weight + from < now → cheaper weight from now ≡ true
   is-cheaper s h = both-pass _ _ (lt-ltb 0 weight (omega arith)) (lt-ltb (weight + from) now h)
@@ -34,8 +34,8 @@ module _ (weight from now : ℕ) where
       let b = both (ltb 0 weight) (ltb (weight + from) now) e in
       (ltb-true 0 weight (b .0), ltb-true (weight + from) now (b .1))
 
-  pub not-linked : weight ≡ 0 → as-cheap weight from now ≡ false
-  not-linked e = first-fails weight (eqb (weight + from) now) e
+  pub no-link-as-cheap : weight ≡ 0 → as-cheap weight from now ≡ false
+  no-link-as-cheap e = first-fails weight (eqb (weight + from) now) e
 
   pub is-as-cheap : 0 < weight → weight + from ≡ now → as-cheap weight from now ≡ true
   is-as-cheap l e = both-pass _ _ (lt-ltb 0 weight l) (eq-eqb (weight + from) now e)

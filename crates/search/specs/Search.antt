@@ -32,6 +32,6 @@ hops-over w c i = set-of (λ k. as-cheap (w i k) (c k) (c i)) 64
 unfoldable pub sets-from : (ℕ → ℕ → ℕ) → ℕ → List ℕ
 sets-from w i = map (λ d. hops-over w (λ k. best w 64 k d) i) (below 64)
 
--- both
+-- both, as one search gives them
 unfoldable pub found-from : (ℕ → ℕ → ℕ) → ℕ → Found
 found-from w i = record { costs = costs-from w i; sets = sets-from w i }

@@ -124,8 +124,8 @@ fn handed(own: bool, hops: u64, k: usize) -> u64
     hops
 }
 
-// The cost of router k over a link of this weight from a router of this cost, and its first hops: those over the link alone where that is cheaper,
-// those too where it is as cheap. The answer is k's bit where its cost fell, else 0. The sum is made in 64 bits.
+// Router k over a link of this weight from a router of the cost `from`: where that is cheaper, k takes that cost and the first hops `over` alone;
+// where it is as cheap, `over` joins those that it has. The answer is k's bit where its cost fell, else 0. The sum is made in 64 bits.
 fn reach_one(
     costs: &mut [u32; 64],
     sets: &mut [u64; 64],

@@ -19,6 +19,7 @@ use Rattle.webs.specs.declared.Web.{Web}
 unfoldable pub weight-over : List ℕ → List ℕ → ℕ → ℕ → ℕ
 weight-over near weights i k = pick (has (getD near i 0) k) (getD weights (64 * i + k) 0) 0
 
+-- the same of a web
 abbrev pub web-weight : Web → ℕ → ℕ → ℕ
 web-weight web = weight-over (web .near) (web .weights)
 

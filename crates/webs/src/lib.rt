@@ -1,7 +1,6 @@
 // A table's links laid out as a web: which routers each router is linked to, and the weights.
 ghost use mathlib.Core.Path.{_≡_};
 ghost use lib.ListN.{replicate};
-ghost use Rattle.rules.specs.Links.{weight-in};
 ghost use Rattle.links.specs.Links.{next-numbers};
 ghost use Rattle.webs.specs.Webs.{web-at, link, near-with, weights-with};
 use links::NextLink;

@@ -3,7 +3,7 @@
 use native.Mathlib.Omega.{arith}
 use borrow.Author.Needs.{needs}
 use Rattle.tables.proofs.Asked.{few-routers}
-use Rattle.routes.proofs.Found.{costs-found, sets-found}
+use Rattle.routes.proofs.HandedOver.{costs-found, sets-found}
 use Rattle.routes.proofs.fill_accepted.Statement.{statement}
 use Rattle.routes.proofs.fill_accepted.Tie as tie
 

@@ -5,13 +5,13 @@ use native.Mathlib.Omega.{arith}
 use borrow.Author.Needs.{needs}
 use Rattle.rules.proofs.Basics.{pick-t, pick-f}
 use Rattle.sets.proofs.Members.{one-bit}
-use Rattle.search.proofs.OneLink.{is-cheaper, no-link, no-cheaper}
+use Rattle.search.proofs.OneLink.{is-cheaper, no-link-cheaper, no-cheaper}
 use Rattle.search.proofs.ease_one.Statement.{statement}
 use Rattle.search.proofs.ease_one.Tie as tie
 
 returns : tie.Need-returns
 returns c =
-    let e = no-link _ _ _ (c .if1 .taken) in
+    let e = no-link-cheaper _ _ _ (c .if1 .taken) in
     (sym (pick-f _ _ _ e), sym (pick-f _ _ _ e))
 
 add-sum : tie.Need-add-sum

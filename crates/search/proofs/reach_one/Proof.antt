@@ -5,7 +5,7 @@ use native.Mathlib.Omega.{arith}
 use borrow.Author.Needs.{needs}
 use Rattle.rules.proofs.Basics.{pick-t, pick-f}
 use Rattle.sets.proofs.Members.{one-bit}
-use Rattle.search.proofs.OneLink.{is-cheaper, no-link, no-cheaper}
+use Rattle.search.proofs.OneLink.{is-cheaper, no-link-cheaper, no-cheaper}
 use Rattle.search.proofs.Carrying.{unlinked-stays, cheaper-written, as-cheap-written, dearer-stays}
 use Rattle.search.proofs.reach_one.Statement.{statement}
 use Rattle.search.proofs.reach_one.Tie as tie
@@ -13,7 +13,7 @@ use Rattle.search.proofs.reach_one.Tie as tie
 returns : tie.Need-returns
 returns c =
     let p = c .before .pre in
-    let e = no-link _ _ _ (c .if1 .taken) in
+    let e = no-link-cheaper _ _ _ (c .if1 .taken) in
     (sym (pick-f _ _ _ e), sym (pick-f _ _ _ e), unlinked-stays _ (p .2) _ _ _ _ _ (p .0) (c .if1 .taken))
 
 add-sum : tie.Need-add-sum
