@@ -17,7 +17,7 @@ use Rattle.rules.specs.Words.{pick, below}
 use Rattle.rules.specs.Layout.{Table, Obeys}
 use Rattle.rules.specs.Table.{says}
 use Rattle.rules.specs.NextHops.{has, chosen, next-hops}
-use Rattle.rules.specs.Entries.{starts-here, entry-by, code, cell, row, interfaces}
+use Rattle.rules.specs.Entries.{starts-here, entry-by, entry, code, cell, row, interfaces}
 use Rattle.rules.specs.Demand1.{IsAccepted}
 use Rattle.rules.proofs.Acceptance.{obeys}
 use Rattle.rules.proofs.PlaceByPlace.{Filled, all-of-filled}
@@ -36,7 +36,7 @@ use Rattle.search.proofs.OfTable.{found-sets}
 use Rattle.entries.specs.declared.Entry.{Entry}
 use Rattle.entries.specs.Entries.{entry-told, rules-by}
 use Rattle.entries.proofs.Entries.{delivers, cut-off, drops, sends, by-set}
-use Rattle.interfaces.specs.Interfaces.{OwnSets, code-by, cell-by, start-codes, code-from, members-of, rows}
+use Rattle.interfaces.specs.Interfaces.{code-by, start-codes, code-from, cell-from, members-of, rows}
 
 -- ---- row 255
 
@@ -50,26 +50,6 @@ pub whole-codes : (sets : List ℕ) (i : ℕ) (lent codes : List ℕ) (d : ℕ) 
 unfolding start-codes
 whole-codes sets i lent codes d e w h =
     all-of-filled (code-by sets i starts-here) lent codes d w 64 (ap length e) h
-
--- ---- the rows
-
--- any other row differs from row 255 where the previous hop is a member of the set
-code-split : (set i j d : ℕ) → set < 2 ^ 64 → (i ≡ d → set ≡ 0)
-    → pick (has set j) 129 (code (entry-by (rules-by set) i starts-here d)) ≡ code (entry-by (rules-by set) i j d)
-unfolding entry-told
-code-split set i j d b own = go (ℕ-discrete i d) (ℕ-discrete set 0) (has set j) refl
-  where
-    none : set ≡ 0 → has set j ≡ false
-    none e = ap (λ s. has s j) e ∙ nobody j
-
-    go : Dec (i ≡ d) → Dec (set ≡ 0) → (t : Bool) → has set j ≡ t
-        → pick (has set j) 129 (code (entry-by (rules-by set) i starts-here d)) ≡ code (entry-by (rules-by set) i j d)
-    go (yes e) s t q = pick-f _ _ _ (none (own e)) ∙ ap code (sym (delivers set i starts-here d e) ∙ delivers set i j d e)
-    go (no a) (yes s) t q = pick-f _ _ _ (none s) ∙ ap code (sym (cut-off set i starts-here d a s) ∙ cut-off set i j d a s)
-    go (no a) (no s) true q = pick-t _ _ _ q ∙ ap code (drops set i j d a s q)
-    go (no a) (no s) false q =
-        pick-f _ _ _ q
-        ∙ ap code (sym (sends set i starts-here d a s (chosen set) refl (has-below set 64 starts-here b (omega arith))) ∙ sends set i j d a s (chosen set) refl q)
 
 -- a router that is no member of all the sets is in none of them
 nowhere : (sets : List ℕ) (n j : ℕ) → has (members-of sets n) j ≡ false → (d : ℕ) → d < n → has (getD sets d 0) j ≡ false
@@ -100,44 +80,55 @@ whole-members sets members d e h l =
     let q : d ≡ 64 = omega arith in
     e ∙ ap (members-of sets) q
 
-module _ (sets : List ℕ) (i : ℕ) (codes : List ℕ) (e : codes ≡ start-codes sets i) where
-  code-at : (d : ℕ) → d < 64 → getD codes d 0 ≡ code-by sets i starts-here d
-  unfolding start-codes
-  code-at d h = ap (λ l. getD l d 0) e ∙ value-at (code-by sets i starts-here) 64 d 0 h
+-- ---- the rows, by the sets and the codes of row 255
 
+module _ (sets codes : List ℕ) (i : ℕ) where
   -- row 255, in the first part of what is lent
-  pub start-row : (n : ℕ) (lent row : List ℕ) → n ≤ 64 → i < n → (n + 1) * n ≤ length lent → row ≡ map (λ d. getD codes d 0) (below (length (take n lent)))
-      → row ≡ map (cell-by sets i starts-here) (below n)
-  unfolding cell-by
-  start-row n lent row h l r q =
-      q
-      ∙ ap (λ k. map (λ d. getD codes d 0) (below k)) (length-take-le n lent (omega arith))
-      ∙ values-same _ _ n (λ d b. code-at d (omega arith) ∙ sym (pick-f _ _ _ (ne-eqb i starts-here (omega arith))))
+  pub start-row : (n : ℕ) (lent row : List ℕ) → (n + 1) * n ≤ length lent → row ≡ map (λ d. getD codes d 0) (below (length (take n lent)))
+      → row ≡ map (cell-from sets codes i starts-here) (below n)
+  unfolding cell-from
+  start-row n lent row h q = q ∙ ap (λ k. map (λ d. getD codes d 0) (below k)) (length-take-le n lent (omega arith))
 
-  pub other-row : (n j : ℕ) (row : List ℕ) → n ≤ 64 → OwnSets sets i → j ≢ i → row ≡ map (code-from sets codes j) (below n)
-      → row ≡ map (cell-by sets i j) (below n)
-  unfolding code-from cell-by code-by
-  other-row n j row h s a q = q ∙ values-same _ _ n one
-    where
-      one : (d : ℕ) → d < n → code-from sets codes j d ≡ cell-by sets i j d
-      one d b =
-          ap (λ c. pick (has (getD sets d 0) j) 129 c) (code-at d (omega arith))
-          ∙ code-split (getD sets d 0) i j d (s .fit d) (λ q. ap (λ k. getD sets k 0) (sym q) ∙ s .own)
-          ∙ sym (pick-f _ _ _ (ne-eqb i j (λ q. a (sym q))))
+  module _ (n j : ℕ) (row : List ℕ) (b : j < 64) where
+    below-255 : eqb j starts-here ≡ false
+    below-255 = ne-eqb j starts-here (omega arith)
 
-  -- the row of a previous hop that is in no set is row 255
-  pub same-row : (n j members : ℕ) (row : List ℕ) → n ≤ 64 → OwnSets sets i → j ≢ i → members ≡ members-of sets 64 → has members j ≡ false
-      → row ≡ map (λ d. getD codes d 0) (below n) → row ≡ map (cell-by sets i j) (below n)
-  unfolding code-from
-  same-row n j members row h s a m f q =
-      other-row n j row h s a
-      (q ∙ values-same _ _ n (λ d b. sym (pick-f _ _ _ (nowhere sets 64 j (ap (λ m. has m j) (sym m) ∙ f) d (omega arith)))))
+    pub own-row : j ≡ i → row ≡ map (λ d. 131) (below n) → row ≡ map (cell-from sets codes i j) (below n)
+    unfolding cell-from
+    own-row e q = q ∙ values-same _ _ n (λ d h. sym (pick-f _ _ _ below-255 ∙ pick-t _ _ _ (eq-eqb i j (sym e))))
 
-pub own-row : (sets : List ℕ) (i j n : ℕ) (row : List ℕ) → j ≡ i → row ≡ map (λ d. 131) (below n) → row ≡ map (cell-by sets i j) (below n)
-unfolding cell-by
-own-row sets i j n row e q = q ∙ values-same _ _ n (λ d b. sym (pick-t _ _ _ (eq-eqb i j (sym e))))
+    module _ (a : j ≢ i) where
+      pub other-row : row ≡ map (code-from sets codes j) (below n) → row ≡ map (cell-from sets codes i j) (below n)
+      unfolding cell-from
+      other-row q = q ∙ values-same _ _ n (λ d h. sym (pick-f _ _ _ below-255 ∙ pick-f _ _ _ (ne-eqb i j (λ e. a (sym e)))))
+
+      -- the row of a previous hop that is in no set is row 255
+      pub same-row : (members : ℕ) → n ≤ 64 → members ≡ members-of sets 64 → has members j ≡ false → row ≡ map (λ d. getD codes d 0) (below n)
+          → row ≡ map (cell-from sets codes i j) (below n)
+      unfolding code-from
+      same-row members h m f q =
+          other-row
+          (q ∙ values-same _ _ n (λ d l. sym (pick-f _ _ _ (nowhere sets 64 j (ap (λ m. has m j) (sym m) ∙ f) d (omega arith)))))
 
 -- ---- the table's own cells
+
+-- any other row differs from row 255 where the previous hop is a member of the set
+code-split : (set i j d : ℕ) → set < 2 ^ 64 → (i ≡ d → set ≡ 0)
+    → pick (has set j) 129 (code (entry-by (rules-by set) i starts-here d)) ≡ code (entry-by (rules-by set) i j d)
+unfolding entry-told
+code-split set i j d b own = go (ℕ-discrete i d) (ℕ-discrete set 0) (has set j) refl
+  where
+    none : set ≡ 0 → has set j ≡ false
+    none e = ap (λ s. has s j) e ∙ nobody j
+
+    go : Dec (i ≡ d) → Dec (set ≡ 0) → (t : Bool) → has set j ≡ t
+        → pick (has set j) 129 (code (entry-by (rules-by set) i starts-here d)) ≡ code (entry-by (rules-by set) i j d)
+    go (yes e) s t q = pick-f _ _ _ (none (own e)) ∙ ap code (sym (delivers set i starts-here d e) ∙ delivers set i j d e)
+    go (no a) (yes s) t q = pick-f _ _ _ (none s) ∙ ap code (sym (cut-off set i starts-here d a s) ∙ cut-off set i j d a s)
+    go (no a) (no s) true q = pick-t _ _ _ q ∙ ap code (drops set i j d a s q)
+    go (no a) (no s) false q =
+        pick-f _ _ _ q
+        ∙ ap code (sym (sends set i starts-here d a s (chosen set) refl (has-below set 64 starts-here b (omega arith))) ∙ sends set i j d a s (chosen set) refl q)
 
 -- tables of rows are settled by their cells
 rows-same : (f g : ℕ → ℕ → ℕ) (n m : ℕ) → ((j d : ℕ) → d < n → f j d ≡ g j d) → rows f n m ≡ rows g n m
@@ -159,12 +150,42 @@ module _ (t : Table) (o : Obeys t) (sets : List ℕ) (i : ℕ) (e : sets ≡ map
   own-empty : i < t .routers → getD sets i 0 ≡ 0
   own-empty h = set-at i (omega (arith, o .few-routers)) ∙ empty-sets t o i i .1 (inl refl)
 
-  whole-table : rows (cell-by sets i) (t .routers) (t .routers) ≡ interfaces t i
-  unfolding interfaces row rows cell cell-by code-by
-  whole-table = rows-same (cell-by sets i) (cell t i) (t .routers) (t .routers) one
-    where
-      one : (j d : ℕ) → d < t .routers → cell-by sets i j d ≡ cell t i j d
-      one j d h = ap (λ r. pick (eqb i j) 131 (code r)) (by-set t o i j d (getD sets d 0) (set-at d (omega (arith, o .few-routers))))
+  -- the codes of row 255 are worked out, so every cell is the table's own
+  module _ (codes : List ℕ) (f : codes ≡ start-codes sets i) (h : i < t .routers) where
+    code-at : (d : ℕ) → d < 64 → getD codes d 0 ≡ code-by sets i starts-here d
+    unfolding start-codes
+    code-at d l = ap (λ l. getD l d 0) f ∙ value-at (code-by sets i starts-here) 64 d 0 l
+
+    entry-at : (j d : ℕ) → d < 64 → code-by sets i j d ≡ code (entry t i j d)
+    unfolding code-by
+    entry-at j d l = ap code (by-set t o i j d (getD sets d 0) (set-at d l))
+
+    cell-at : (j d : ℕ) → d < t .routers → cell-from sets codes i j d ≡ cell t i j d
+    unfolding cell-from cell code-from code-by
+    cell-at j d b = go (ℕ-discrete j starts-here) (ℕ-discrete i j)
+      where
+        l : d < 64
+        l = omega (arith, o .few-routers)
+
+        go : Dec (j ≡ starts-here) → Dec (i ≡ j) → cell-from sets codes i j d ≡ pick (eqb i j) 131 (code (entry t i j d))
+        go (yes e) v =
+            pick-t _ _ _ (eq-eqb j starts-here e)
+            ∙ code-at d l
+            ∙ ap (λ k. code-by sets i k d) (sym e)
+            ∙ entry-at j d l
+            ∙ sym (pick-f _ _ _ (ne-eqb i j (λ q. omega (arith, o .few-routers))))
+        go (no a) (yes e) = pick-f _ _ _ (ne-eqb j starts-here a) ∙ pick-t _ _ _ (eq-eqb i j e) ∙ sym (pick-t _ _ _ (eq-eqb i j e))
+        go (no a) (no e) =
+            pick-f _ _ _ (ne-eqb j starts-here a)
+            ∙ pick-f _ _ _ (ne-eqb i j e)
+            ∙ ap (λ c. pick (has (getD sets d 0) j) 129 c) (code-at d l)
+            ∙ code-split (getD sets d 0) i j d (sets-small d) (λ q. ap (λ k. getD sets k 0) (sym q) ∙ own-empty h)
+            ∙ entry-at j d l
+            ∙ sym (pick-f _ _ _ (ne-eqb i j e))
+
+    whole-table : rows (cell-from sets codes i) (t .routers) (t .routers) ≡ interfaces t i
+    unfolding interfaces row rows
+    whole-table = rows-same (cell-from sets codes i) (cell t i) (t .routers) (t .routers) cell-at
 
 -- the rows over the web of an accepted table
 module _ (table : List ℕ) (a : IsAccepted table) (t : Outline) (q : t ≡ outline-of table)
@@ -179,15 +200,10 @@ module _ (table : List ℕ) (a : IsAccepted table) (t : Outline) (q : t ≡ outl
   own-n : t .routers ≡ says table .routers
   own-n = own-routers table t q
 
-  pub own-sets-are : i < t .routers → OwnSets sets i
-  own-sets-are h = record {
-    fit = sets-small (says table) (obeys table a) sets i own-sets;
-    own = own-empty (says table) (obeys table a) sets i own-sets (omega (arith, own-n));
-  }
-
-  pub rows-of-table : (lent out : List ℕ) → out ≡ rows (cell-by sets i) (t .routers) (t .routers) ++ drop ((t .routers + 1) * t .routers) lent
+  pub rows-of-table : i < t .routers → (codes : List ℕ) → codes ≡ start-codes sets i → (lent out : List ℕ)
+      → out ≡ rows (cell-from sets codes i) (t .routers) (t .routers) ++ drop ((t .routers + 1) * t .routers) lent
       → out ≡ interfaces (says table) i ++ drop ((t .routers + 1) * t .routers) lent
-  rows-of-table lent out g =
+  rows-of-table h codes c lent out g =
       g
       ∙ ap (λ r. r ++ drop ((t .routers + 1) * t .routers) lent)
-      (ap (λ n. rows (cell-by sets i) n n) own-n ∙ whole-table (says table) (obeys table a) sets i own-sets)
+      (ap (λ n. rows (cell-from sets codes i) n n) own-n ∙ whole-table (says table) (obeys table a) sets i own-sets codes c (omega (arith, own-n)))

@@ -1,10 +1,10 @@
 -- A router's interface table by its next-hop sets, and what the question about it answers, in document 01's numbers.
 use mathlib.Core.Path.{_≡_}
-use mathlib.Core.List.{List, _∷_, map, flatten}
-use Prim.Native.Nat.{ℕ, zero, suc, _^_, _<_}
+use mathlib.Core.List.{List, [], _∷_, map, flatten}
+use Prim.Native.Nat.{ℕ, zero, suc}
 use lib.Bits.{bitOr}
 use lib.ListN.{getD}
-use Rattle.rules.specs.Words.{_=?_, pick, below}
+use Rattle.rules.specs.Words.{_=?_, pick, _when_, first_otherwise_, below}
 use Rattle.rules.specs.NextHops.{has}
 use Rattle.rules.specs.Entries.{starts-here, entry-by, code, discard}
 use Rattle.rules.specs.Questions.{Answer, answered, refused-with, IsNumber, interfaces-answer, interfaces-after}
@@ -30,18 +30,9 @@ Writes table i out r out′ = (writing-numbers r ≡ interfaces-answer table i o
 
 -- ---- rows by the router's next-hop sets for each destination
 
--- each set is a 64-bit number, and router i's set for itself is empty
-pub record OwnSets (sets : List ℕ) (i : ℕ) : Type 0 where
-  pub fit : (d : ℕ) → getD sets d 0 < 2 ^ 64
-  pub own : getD sets i 0 ≡ 0
-
 -- the code of router i's entry for previous hop j and destination d, by its set for d
 unfoldable pub code-by : List ℕ → ℕ → ℕ → ℕ → ℕ
 code-by sets i j d = code (entry-by (rules-by (getD sets d 0)) i j d)
-
--- the cell: 131 in the router's own row, else that code
-unfoldable pub cell-by : List ℕ → ℕ → ℕ → ℕ → ℕ
-cell-by sets i j d = pick (i =? j) 131 (code-by sets i j d)
 
 -- the codes of row 255, for each of 64 destinations
 unfoldable pub start-codes : List ℕ → ℕ → List ℕ
@@ -55,6 +46,10 @@ members-of sets (suc n) = bitOr (members-of sets n) (getD sets n 0)
 -- the code for a previous hop: discard where it is a member, else that of row 255
 unfoldable pub code-from : List ℕ → List ℕ → ℕ → ℕ → ℕ
 code-from sets codes j d = pick (has (getD sets d 0) j) (code discard) (getD codes d 0)
+
+-- the cell of previous hop j: in row 255 its code, in router i's own row 131
+unfoldable pub cell-from : List ℕ → List ℕ → ℕ → ℕ → ℕ → ℕ
+cell-from sets codes i j d = first getD codes d 0 when (j =? starts-here) ∷ 131 when (i =? j) ∷ [] otherwise code-from sets codes j d
 
 -- rows of n cells: row 255 first, then previous hops 0 to m − 1
 unfoldable pub rows : (ℕ → ℕ → ℕ) → ℕ → ℕ → List ℕ

@@ -9,7 +9,7 @@ ghost use Rattle.rules.specs.NextHops.{has};
 ghost use Rattle.rules.specs.Entries.{interfaces};
 ghost use Rattle.rules.specs.Demand1.{IsAccepted};
 ghost use Rattle.tables.specs.Readings.{outline-of};
-ghost use Rattle.interfaces.specs.Interfaces.{Writes, OwnSets, cell-by, start-codes, code-from, members-of, rows};
+ghost use Rattle.interfaces.specs.Interfaces.{Writes, start-codes, code-from, cell-from, members-of, rows};
 use entries::STARTS_HERE;
 use entries::code;
 use entries::decide;
@@ -119,9 +119,9 @@ fn write_row(
     previous: usize,
     row: &mut [u8],
 )
-    requires { ⌜ OwnSets (now sets) router × (members ≡ members-of (now sets) 64) × (now codes ≡ start-codes (now sets) router)
-        × (previous < 64) × (length (now row) ≤ 64) ⌝ }
-    ensures { λ _. ⌜ now (row .exit) ≡ map (cell-by (now (sets .entry)) router previous) (below (length (now (row .entry)))) ⌝ }
+    requires { ⌜ (members ≡ members-of (now sets) 64) × (previous < 64) × (length (now row) ≤ 64) ⌝ }
+    ensures { λ _. ⌜ now (row .exit)
+        ≡ map (cell-from (now (sets .entry)) (now (codes .entry)) router previous) (below (length (now (row .entry)))) ⌝ }
 {
     if previous == router {
         write_own(row);
@@ -134,26 +134,19 @@ fn write_row(
     write_other(sets, codes, previous, row);
 }
 
-// All rows, by the router's next-hop sets for each of n destinations.
-fn write_rows(n: usize, router: u8, sets: &[u64; 64], out: &mut [u8])
-    requires { ⌜ (n ≤ 64) × (router < n) × OwnSets (now sets) router × ((n + 1) * n ≤ length (now out)) ⌝ }
-    ensures { λ _. ⌜ now (out .exit) ≡ rows (cell-by (now (sets .entry)) router) n n ++ drop ((n + 1) * n) (now (out .entry)) ⌝ }
+// All rows, by the router's next-hop sets for each of n destinations and the codes of row 255.
+fn write_rows(n: usize, router: usize, sets: &[u64; 64], codes: &[u8; 64], out: &mut [u8])
+    requires { ⌜ (n ≤ 64) × ((n + 1) * n ≤ length (now out)) ⌝ }
+    ensures { λ _. ⌜ now (out .exit)
+        ≡ rows (cell-from (now (sets .entry)) (now (codes .entry)) router) n n ++ drop ((n + 1) * n) (now (out .entry)) ⌝ }
 {
-    let codes = start_codes(sets, router);
     let members = all_members(sets);
-    write_start(&codes, &mut out[..n]);
+    write_start(codes, &mut out[..n]);
     let mut start = n;
     let mut previous = 0;
     while previous < n {
         let end = start + n;
-        write_row(
-            sets,
-            members,
-            &codes,
-            router as usize,
-            previous,
-            &mut out[start..end],
-        );
+        write_row(sets, members, codes, router, previous, &mut out[start..end]);
         start = end;
         previous += 1;
     }
@@ -173,7 +166,14 @@ fn write_accepted(table: &[u8], t: Outline, router: u8, out: &mut [u8])
 {
     let web = web_of(table, t);
     let found = all_from(web, router);
-    write_rows(t.routers as usize, router, &found.sets, out);
+    let codes = start_codes(&found.sets, router);
+    write_rows(
+        t.routers as usize,
+        router as usize,
+        &found.sets,
+        &codes,
+        out,
+    );
 }
 
 // The full interface table of a router.

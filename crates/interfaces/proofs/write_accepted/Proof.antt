@@ -1,7 +1,7 @@
 -- `interfaces::write_accepted` meets its contract.
 -- Assumes nothing.
 use Rattle.tables.proofs.Asked.{few-routers}
-use Rattle.interfaces.proofs.Cells.{own-sets-are, rows-of-table}
+use Rattle.interfaces.proofs.Cells.{rows-of-table}
 use borrow.Author.Needs.{needs}
 use Rattle.interfaces.proofs.write_accepted.Statement.{statement}
 use Rattle.interfaces.proofs.write_accepted.Tie as tie
@@ -12,24 +12,27 @@ web-of-requires c κs = search needs
 all-from-requires : tie.Need-all-from-requires
 all-from-requires c κs = search needs
 
+start-codes-requires : tie.Need-start-codes-requires
+start-codes-requires c κs = search needs
+
 cast-write-rows : tie.Need-cast-write-rows
 cast-write-rows c = search needs
 
 write-rows-requires : tie.Need-write-rows-requires
 write-rows-requires c κs =
-    let m = c .before .before .before .before in
-    let p = m .before .before .before .before .pre in
-    let o = own-sets-are _ (p .0) _ (p .1) _ (m .before .web-of .ensures) _ _ (m .all-from .ensures) (p .2) in
-    (few-routers _ (p .0) _ (p .1), p .2, o, p .3)
+    let p = c .before .before .before .before .before .before .before .before .before .before .before .before .pre in
+    (few-routers _ (p .0) _ (p .1), p .3)
 
 same-length : tie.Need-same-length
 same-length c = search needs
 
 returns : tie.Need-returns
 returns c =
-    let m = c .before .before .before .before .before .before .before in
+    let s = c .before .before .before .before .before .before .before .before in
+    let m = s .before .before .before in
     let p = m .before .before .before .before .pre in
-    rows-of-table _ (p .0) _ (p .1) _ (m .before .web-of .ensures) _ _ (m .all-from .ensures) _ _ (c .before .before .write-rows .ensures)
+    rows-of-table _ (p .0) _ (p .1) _ (m .before .web-of .ensures) _ _ (m .all-from .ensures) (p .2) _ (s .start-codes .ensures) _ _
+    (c .before .before .write-rows .ensures)
 
 pub write-accepted-spec : {M : Type 1} → statement M
 write-accepted-spec =
@@ -37,6 +40,7 @@ write-accepted-spec =
     (tie.spec
     web-of-requires
     all-from-requires
+    start-codes-requires
     cast-write-rows
     write-rows-requires
     same-length
