@@ -4,13 +4,13 @@ use mathlib.Core.Path.{_≡_, refl, sym, _∙_, ap}
 use mathlib.Core.Logic.{_≢_, inl}
 use mathlib.Core.Bool.{Bool, true, false}
 use mathlib.Core.List.{List, _∷_, _++_, map, flatten}
-use Prim.Native.Nat.{ℕ, zero, suc, _+_, _*_, _^_, _≤_, _<_, _/_}
+use Prim.Native.Nat.{ℕ, zero, suc, _+_, _*_, _^_, _≤_, _<_}
 use native.Mathlib.Numerals.{add-one}
 use native.Mathlib.Decide.{ℕ-discrete, decLt}
 use native.Mathlib.Omega.{arith}
-use lib.Bits.{bitAnd, bitOr}
+use lib.Bits.{bitOr}
 use lib.Dec.{eqb}
-use lib.ListN.{length, getD, take, drop, replicate}
+use lib.ListN.{length, getD, take, drop, replicate, getD-replicate}
 use lib.Seq.{length-take-le}
 use borrow.Author.Tests.{eq-eqb, ne-eqb}
 use Rattle.rules.specs.Words.{pick, below}
@@ -27,7 +27,7 @@ use Rattle.tables.specs.Readings.{outline-of}
 use Rattle.tables.specs.declared.Outline.{Outline}
 use Rattle.tables.proofs.Asked.{own-routers, few-routers}
 use Rattle.sets.proofs.Members.{nobody}
-use Rattle.sets.proofs.Bits.{has-joined, shifted-down}
+use Rattle.sets.proofs.Bits.{has-joined}
 use Rattle.webs.specs.declared.Web.{Web}
 use Rattle.webs.specs.Webs.{web-at, web-weight}
 use Rattle.search.specs.declared.Found.{Found}
@@ -62,10 +62,6 @@ nowhere sets (suc n) j e d h = go (ℕ-discrete d n) (neither _ _ (sym (has-join
     go (yes q) f ih = rw q (f .1)
     go (no q) f ih = ih (f .0) d (omega arith)
 
--- as the code tests it
-pub no-member : (set k : ℕ) → bitAnd (set / 2 ^ k) 1 ≡ 0 → has set k ≡ false
-no-member set k e = sym (shifted-down set k) ∙ ap (λ n. eqb n 1) e
-
 -- all members, set by set
 pub no-members : (sets : List ℕ) → 0 ≡ members-of sets 0
 unfolding members-of
@@ -93,9 +89,13 @@ module _ (sets codes : List ℕ) (i : ℕ) where
     below-255 : eqb j starts-here ≡ false
     below-255 = ne-eqb j starts-here (omega arith)
 
-    pub own-row : j ≡ i → row ≡ map (λ d. 131) (below n) → row ≡ map (cell-from sets codes i j) (below n)
+    pub own-row : n ≤ 64 → j ≡ i → (own : List ℕ) → own ≡ replicate 64 131 → row ≡ map (λ d. getD own d 0) (below n)
+        → row ≡ map (cell-from sets codes i j) (below n)
     unfolding cell-from
-    own-row e q = q ∙ values-same _ _ n (λ d h. sym (pick-f _ _ _ below-255 ∙ pick-t _ _ _ (eq-eqb i j (sym e))))
+    own-row h e own o q =
+        q
+        ∙ values-same _ _ n
+        (λ d l. ap (λ c. getD c d 0) o ∙ getD-replicate 64 d 131 0 (omega arith) ∙ sym (pick-f _ _ _ below-255 ∙ pick-t _ _ _ (eq-eqb i j (sym e))))
 
     module _ (a : j ≢ i) where
       pub other-row : row ≡ map (code-from sets codes j) (below n) → row ≡ map (cell-from sets codes i j) (below n)

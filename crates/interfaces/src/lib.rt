@@ -14,6 +14,7 @@ use entries::STARTS_HERE;
 use entries::code;
 use entries::decide;
 use search::all_from;
+use sets::has;
 use tables::Outline;
 use tables::Reading;
 use tables::read;
@@ -36,6 +37,13 @@ fn no_codes() -> [u8; 64]
     ensures { λ r. ⌜ r ≡ replicate 64 0 ⌝ }
 {
     [0; 64]
+}
+
+// The codes of the router's own row.
+fn own_codes() -> [u8; 64]
+    ensures { λ r. ⌜ r ≡ replicate 64 131 ⌝ }
+{
+    [OWN_ROW; 64]
 }
 
 // The codes of row 255, by the router's next-hop sets for each destination.
@@ -65,18 +73,17 @@ fn all_members(sets: &[u64; 64]) -> u64
 }
 
 // Discard where the previous hop is a member of the set, else the code of row 255.
-fn code_from(set: u64, previous: usize, code: u8) -> u8
-    requires { ⌜ previous < 64 ⌝ }
+fn code_from(set: u64, previous: u8, code: u8) -> u8
     ensures { λ r. ⌜ r ≡ pick (has set previous) 129 code ⌝ }
 {
-    if (set >> previous) & 1 == 1 {
+    if has(set, previous) {
         return DISCARD;
     }
     code
 }
 
-// Row 255, and the row of a previous hop that is in no set.
-fn write_start(codes: &[u8; 64], row: &mut [u8])
+// A row of given codes.
+fn write_codes(codes: &[u8; 64], row: &mut [u8])
     requires { ⌜ length (now row) ≤ 64 ⌝ }
     ensures { λ _. ⌜ now (row .exit) ≡ map (λ d. getD (now (codes .entry)) d 0) (below (length (now (row .entry)))) ⌝ }
 {
@@ -87,20 +94,9 @@ fn write_start(codes: &[u8; 64], row: &mut [u8])
     }
 }
 
-// The row of the router itself.
-fn write_own(row: &mut [u8])
-    ensures { λ _. ⌜ now (row .exit) ≡ map (λ d. 131) (below (length (now (row .entry)))) ⌝ }
-{
-    let mut d = 0;
-    while d < row.len() {
-        row[d] = OWN_ROW;
-        d += 1;
-    }
-}
-
 // The row of a previous hop that is in some of the sets.
-fn write_other(sets: &[u64; 64], codes: &[u8; 64], previous: usize, row: &mut [u8])
-    requires { ⌜ (previous < 64) × (length (now row) ≤ 64) ⌝ }
+fn write_other(sets: &[u64; 64], codes: &[u8; 64], previous: u8, row: &mut [u8])
+    requires { ⌜ length (now row) ≤ 64 ⌝ }
     ensures { λ _. ⌜ now (row .exit) ≡ map (code-from (now (sets .entry)) (now (codes .entry)) previous) (below (length (now (row .entry)))) ⌝ }
 {
     let mut d = 0;
@@ -110,13 +106,13 @@ fn write_other(sets: &[u64; 64], codes: &[u8; 64], previous: usize, row: &mut [u
     }
 }
 
-// The row of a previous hop.
+// The row of a previous hop: 131 throughout if it is the router itself, row 255 if it is in no set.
 fn write_row(
     sets: &[u64; 64],
     members: u64,
     codes: &[u8; 64],
-    router: usize,
-    previous: usize,
+    router: u8,
+    previous: u8,
     row: &mut [u8],
 )
     requires { ⌜ (members ≡ members-of (now sets) 64) × (previous < 64) × (length (now row) ≤ 64) ⌝ }
@@ -124,29 +120,37 @@ fn write_row(
         ≡ map (cell-from (now (sets .entry)) (now (codes .entry)) router previous) (below (length (now (row .entry)))) ⌝ }
 {
     if previous == router {
-        write_own(row);
+        let own = own_codes();
+        write_codes(&own, row);
         return;
     }
-    if (members >> previous) & 1 == 0 {
-        write_start(codes, row);
+    if has(members, previous) {
+        write_other(sets, codes, previous, row);
         return;
     }
-    write_other(sets, codes, previous, row);
+    write_codes(codes, row);
 }
 
 // All rows, by the router's next-hop sets for each of n destinations and the codes of row 255.
-fn write_rows(n: usize, router: usize, sets: &[u64; 64], codes: &[u8; 64], out: &mut [u8])
+fn write_rows(n: usize, router: u8, sets: &[u64; 64], codes: &[u8; 64], out: &mut [u8])
     requires { ⌜ (n ≤ 64) × ((n + 1) * n ≤ length (now out)) ⌝ }
     ensures { λ _. ⌜ now (out .exit)
         ≡ rows (cell-from (now (sets .entry)) (now (codes .entry)) router) n n ++ drop ((n + 1) * n) (now (out .entry)) ⌝ }
 {
     let members = all_members(sets);
-    write_start(codes, &mut out[..n]);
+    write_codes(codes, &mut out[..n]);
     let mut start = n;
     let mut previous = 0;
     while previous < n {
         let end = start + n;
-        write_row(sets, members, codes, router, previous, &mut out[start..end]);
+        write_row(
+            sets,
+            members,
+            codes,
+            router,
+            previous as u8,
+            &mut out[start..end],
+        );
         start = end;
         previous += 1;
     }
@@ -167,13 +171,7 @@ fn write_accepted(table: &[u8], t: Outline, router: u8, out: &mut [u8])
     let web = web_of(table, t);
     let found = all_from(web, router);
     let codes = start_codes(&found.sets, router);
-    write_rows(
-        t.routers as usize,
-        router as usize,
-        &found.sets,
-        &codes,
-        out,
-    );
+    write_rows(t.routers as usize, router, &found.sets, &codes, out);
 }
 
 // The full interface table of a router.

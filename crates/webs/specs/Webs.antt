@@ -42,15 +42,17 @@ laid bytes start (suc n) =
     let l = link-at bytes (start + 7 * n) .link in
     pick (link-fits 64 l) (l ∷ laid bytes start n) (laid bytes start n)
 
--- a link by its three numbers
-abbrev pub link : ℕ → ℕ → ℕ → Link
-link a b weight = record { a = a; b = b; weight = weight }
-
 -- the web of the links that an outline tells of
 unfoldable pub web-at : List ℕ → Outline → Web
 web-at table t = web-by (weight-in (laid table (t .start) (t .links)))
 
--- the two arrays with one more link; one that does not fit changes nothing
+-- ---- one more link
+
+-- a link by its three numbers
+abbrev pub link : ℕ → ℕ → ℕ → Link
+link a b weight = record { a = a; b = b; weight = weight }
+
+-- the two arrays with it; one that does not fit changes nothing
 unfoldable pub near-with : Link → List ℕ → List ℕ
 near-with l near =
     let one = set near (l .a) (bitOr (getD near (l .a) 0) (2 ^ l .b)) in

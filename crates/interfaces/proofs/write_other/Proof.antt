@@ -2,6 +2,7 @@
 -- Assumes nothing.
 use Prim.Native.Nat.{_-_}
 use native.Mathlib.Omega.{arith}
+use borrow.Author.Needs.{needs}
 use lib.ListN.{length, length-set}
 use Rattle.rules.proofs.PlaceByPlace.{Filled, none-filled, one-filled, all-filled}
 use Rattle.interfaces.specs.Interfaces.{code-from}
@@ -27,7 +28,7 @@ element-copy-out-code-from-2 : tie.Need-element-copy-out-code-from-2 Inv-loop μ
 element-copy-out-code-from-2 c = omega arith
 
 code-from-requires : tie.Need-code-from-requires Inv-loop μ-loop
-code-from-requires c κs = omega arith
+code-from-requires c κs = search needs
 
 slice-write-row : tie.Need-slice-write-row Inv-loop μ-loop
 slice-write-row c = omega arith

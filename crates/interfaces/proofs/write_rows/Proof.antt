@@ -20,16 +20,16 @@ abbrev μ-loop : tie.MeasureT-loop
 all-members-requires : tie.Need-all-members-requires Inv-loop μ-loop
 all-members-requires c κs = search needs
 
-slice-relend-prefix-write-start : tie.Need-slice-relend-prefix-write-start Inv-loop μ-loop
-slice-relend-prefix-write-start c = omega arith
+slice-relend-prefix-write-codes : tie.Need-slice-relend-prefix-write-codes Inv-loop μ-loop
+slice-relend-prefix-write-codes c = omega arith
 
-slice-aggregate-write-start : tie.Need-slice-aggregate-write-start Inv-loop μ-loop
-slice-aggregate-write-start c =
+slice-aggregate-write-codes : tie.Need-slice-aggregate-write-codes Inv-loop μ-loop
+slice-aggregate-write-codes c =
     let s = c .before .before .before in
     sym (length-take-le (s .args .n) (s .args .out .now) (omega arith))
 
-write-start-requires : tie.Need-write-start-requires Inv-loop μ-loop
-write-start-requires c κs =
+write-codes-requires : tie.Need-write-codes-requires Inv-loop μ-loop
+write-codes-requires c κs =
     let s = c .before .before .before in
     omega (arith, length-take-le (s .args .n) (s .args .out .now) (omega arith))
 
@@ -37,11 +37,14 @@ loop-holds : tie.Need-loop-holds Inv-loop μ-loop
 loop-holds c =
     let w = c .before .before in
     let p = w .before .before .before .before .pre in
-    let e = start-row _ _ _ _ _ _ (p .1) (w .write-start .ensures) in
+    let e = start-row _ _ _ _ _ _ (p .1) (w .write-codes .ensures) in
     row-started _ _ _ _ e (p .1)
 
 add-end : tie.Need-add-end Inv-loop μ-loop
 add-end c = omega (arith, row-room _ _ _ _ _ _ (c .before .loop .inv) (c .loop-test .taken))
+
+cast-write-row : tie.Need-cast-write-row Inv-loop μ-loop
+cast-write-row c = omega arith
 
 sub-write-row : tie.Need-sub-write-row Inv-loop μ-loop
 sub-write-row c = omega arith
@@ -74,14 +77,14 @@ same-length : tie.Need-same-length Inv-loop μ-loop
 same-length c =
     let w = c .before .before .before .before in
     let p = w .before .before .before .before .pre in
-    let e = start-row _ _ _ _ _ _ (p .1) (w .write-start .ensures) in
+    let e = start-row _ _ _ _ _ _ (p .1) (w .write-codes .ensures) in
     rows-long _ _ _ _ e _ _ _ (c .before .loop .inv) (p .1)
 
 returns : tie.Need-returns Inv-loop μ-loop
 returns c =
     let w = c .before .before .before .before in
     let p = w .before .before .before .before .pre in
-    let e = start-row _ _ _ _ _ _ (p .1) (w .write-start .ensures) in
+    let e = start-row _ _ _ _ _ _ (p .1) (w .write-codes .ensures) in
     rows-ended _ _ _ _ e _ _ _ (c .before .loop .inv) (c .loop-test .left)
 
 pub write-rows-spec : {M : Type 1} → statement M
@@ -91,11 +94,12 @@ write-rows-spec =
     Inv-loop
     μ-loop
     all-members-requires
-    slice-relend-prefix-write-start
-    slice-aggregate-write-start
-    write-start-requires
+    slice-relend-prefix-write-codes
+    slice-aggregate-write-codes
+    write-codes-requires
     loop-holds
     add-end
+    cast-write-row
     sub-write-row
     part-write-row-start
     part-write-row-end

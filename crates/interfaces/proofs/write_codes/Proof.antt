@@ -1,12 +1,12 @@
--- `interfaces::write_start` meets its contract.
+-- `interfaces::write_codes` meets its contract.
 -- Assumes nothing.
 use mathlib.Core.Path.{refl}
 use Prim.Native.Nat.{_-_}
 use native.Mathlib.Omega.{arith}
 use lib.ListN.{length, getD, length-set}
 use Rattle.rules.proofs.PlaceByPlace.{Filled, none-filled, one-filled, all-filled}
-use Rattle.interfaces.proofs.write_start.Statement.{statement}
-use Rattle.interfaces.proofs.write_start.Tie as tie
+use Rattle.interfaces.proofs.write_codes.Statement.{statement}
+use Rattle.interfaces.proofs.write_codes.Tie as tie
 
 abbrev Inv-loop : tie.InvT-loop
 Inv-loop codes row₀ d₀ row d = Filled (λ d. getD codes d 0) row₀ row d
@@ -38,8 +38,8 @@ same-length c = c .before .loop .inv .same-length
 returns : tie.Need-returns Inv-loop μ-loop
 returns c = all-filled _ _ _ _ (c .before .loop .inv) (c .loop-test .left)
 
-pub write-start-spec : {M : Type 1} → statement M
-write-start-spec =
+pub write-codes-spec : {M : Type 1} → statement M
+write-codes-spec =
     tie.close
     (tie.spec
     Inv-loop
