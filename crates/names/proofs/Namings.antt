@@ -20,15 +20,15 @@ use Rattle.rules.specs.Demand1.{IsAccepted}
 use Rattle.rules.specs.Names.{Part, part-or, empty-part, named, or-else}
 use Rattle.rules.specs.Questions.{answered, Refusal, answer, name-for, name-answer, name-part, two-names-answer, two-names-part}
 use Rattle.rules.proofs.Basics.{pick-t, pick-f}
+use Rattle.rules.proofs.Names.{parts-fit}
 use Rattle.rules.proofs.Refusals.{gives-values}
-use Rattle.rules.proofs.Cases.{applies, quiet-routers, answered-exactly}
+use Rattle.rules.proofs.Cases.{applies, quiet-routers}
 use Rattle.rules.proofs.Lines.{line-applies, line-passes, no-lines-left, table-bad, table-good}
 use Rattle.names.specs.Namings.{naming-numbers, NamesPart, NamesIn, NamesInTwo, naming-of, naming-of-two}
 use Rattle.names.specs.Parts.{PartAt, IsPart, IsPartOfTwo}
 use Rattle.names.specs.declared.Naming.{Naming}
 use Rattle.names.specs.declared.Naming.the-variants.{Named, Unnamed, Refused}
 use Rattle.names.proofs.Naming.{enum}
-use Rattle.names.proofs.Seeking.{named-within}
 use Rattle.tables.specs.declared.Outline.{Outline}
 use Rattle.tables.specs.declared.Reading.{Reading}
 use Rattle.tables.specs.declared.Reading.the-variants as reading
@@ -178,12 +178,6 @@ empty-without part refusals o full empty f Unnamed (e, p) t =
 empty-without part refusals o full empty f (Refused number table place) (e, p) t =
     pick-f _ _ _ (ne-eqb _ 0 (λ z. p (ap (λ a. a .refusal .number) e ∙ z)))
 
--- what holds of each name in a table and of the other part
-or-part : (P : Part → Type 0) (which : ℕ) (o : Option Name) (other : Part)
-    → ((m : Name) → o ≡ some m → P (record { table = which; place = m .place; size = length (m .bytes) })) → P other → P (part-or which o other)
-or-part P which none other f h = h
-or-part P which (some m) other f h = f m refl
-
 module _ (s : RefT (List ℕ)) (router : ℕ) (n : Naming) (p : NamesIn (s .now) router n) where
   pub in-empty : (r : RefT (List ℕ)) → OneOf (1 ∷ 2 ∷ []) (tagOf (declared enum) n) → PartAt s (length (s .now)) 0 r → IsPart s (name-part (s .now) router) r
   unfolding name-answer name-part
@@ -200,13 +194,10 @@ module _ (s : RefT (List ℕ)) (router : ℕ) (n : Naming) (p : NamesIn (s .now)
     named-so = subst (NamesIn (s .now) router) e p
 
     pub in-within : place + size ≤ length (s .now)
-    unfolding naming-numbers name-part
+    unfolding naming-numbers
     in-within =
-        let none : name-answer (s .now) router .refusal .number ≡ 0 = sym (ap (λ a. a .refusal .number) (named-so .0)) in
-        let accepted = answered-exactly .of-name (s .now) router .0 none .0 in
-        let Within : Part → Type 0 = λ part. part .place + part .size ≤ length (s .now) in
-        subst Within (sym (named-so .1 ∙ pick-t _ _ _ (eq-eqb _ 0 none)))
-        (or-part Within 0 (name-for (s .now) router) _ (named-within (s .now) accepted router) (omega arith))
+        subst (λ (part : Part). part .place + part .size ≤ length (s .now)) (sym (named-so .1))
+        (parts-fit .of-name (s .now) router (sym (ap (λ a. a .values) (named-so .0))) .within)
 
     pub in-part : (r : RefT (List ℕ)) → PartAt s place size r → IsPart s (name-part (s .now) router) r
     in-part r h = subst (λ part. IsPart s part r) (named-so .1) h
@@ -232,15 +223,11 @@ module _ (old new : RefT (List ℕ)) (router : ℕ) (n : Naming) (p : NamesInTwo
     named-so-of-two = subst (NamesInTwo (old .now) (new .now) router) e p
 
     pub two-within : place + size ≤ length (pick first (old .now) (new .now))
-    unfolding naming-numbers two-names-part
+    unfolding naming-numbers
     two-within =
-        let none : two-names-answer (old .now) (new .now) router .refusal .number ≡ 0 = sym (ap (λ a. a .refusal .number) (named-so-of-two .0)) in
-        let accepted = answered-exactly .of-two-names (old .now) (new .now) router .0 none in
-        let Within : Part → Type 0 = λ part. part .place + part .size ≤ length (pick (eqb (part .table) 0) (old .now) (new .now)) in
         rw q at (
-        subst Within (sym (named-so-of-two .1 ∙ pick-t _ _ _ (eq-eqb _ 0 none)))
-        (or-part Within 1 (name-for (new .now) router) _ (named-within (new .now) (accepted .1) router)
-        (or-part Within 0 (name-for (old .now) router) _ (named-within (old .now) (accepted .0) router) (omega arith)))
+        subst (λ (part : Part). part .place + part .size ≤ length (pick (eqb (part .table) 0) (old .now) (new .now))) (sym (named-so-of-two .1))
+        (parts-fit .of-two-names (old .now) (new .now) router (sym (ap (λ a. a .values) (named-so-of-two .0))) .within)
         )
 
     pub two-part : (r : RefT (List ℕ)) → PartAt (pick first old new) place size r → IsPartOfTwo old new (two-names-part (old .now) (new .now) router) r

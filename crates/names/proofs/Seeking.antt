@@ -2,20 +2,17 @@
 -- Assumes nothing.
 use mathlib.Core.Path.{_≡_, refl, sym, _∙_, ap, subst}
 use mathlib.Core.Logic.{_≢_}
-use mathlib.Core.Option.{some}
 use mathlib.Core.List.{List}
 use Prim.Native.Nat.{ℕ, _+_, _-_, _≤_, _<_}
 use native.Mathlib.Omega.{arith}
 use lib.ListN.{length}
 use borrow.Author.Tests.{eq-eqb, ne-eqb}
-use Rattle.rules.specs.Words.{All}
 use Rattle.rules.specs.Layout.{Name, tag-name}
 use Rattle.rules.specs.Table.{byte, says}
 use Rattle.rules.specs.Demand1.{IsAccepted}
 use Rattle.rules.specs.Names.{name-in}
 use Rattle.rules.specs.Questions.{name-for}
 use Rattle.rules.proofs.Basics.{pick-t, pick-f}
-use Rattle.rules.proofs.Names.{found-holds}
 use Rattle.names.specs.Namings.{naming-of}
 use Rattle.names.specs.declared.Naming.the-variants.{Named, Unnamed}
 use Rattle.names.proofs.NamesListed.{Listed, done, more, names-listed}
@@ -80,13 +77,3 @@ module _ {bytes : List ℕ} {router place : ℕ} (s : Seeks bytes router place) 
             listed = subst (λ n. Listed bytes n ms) (omega arith) l;
             same = sym (pick-f _ _ _ (ne-eqb (m .router) router (λ g. f (r ∙ g)))) ∙ e;
           }
-
--- ---- a name that is found lies within the table
-
-listed-within : {bytes : List ℕ} {place : ℕ} {ms : List Name} → Listed bytes place ms → All (λ m. m .place + length (m .bytes) ≤ length bytes) ms
-listed-within (done h t) = tt
-listed-within (more t r p z h l) = (omega arith, listed-within l)
-
-pub named-within : (bytes : List ℕ) → IsAccepted bytes → (router : ℕ) (m : Name) → name-for bytes router ≡ some m
-    → m .place + length (m .bytes) ≤ length bytes
-named-within bytes e = found-holds _ (says bytes .names) (listed-within (names-listed bytes e))

@@ -1,6 +1,6 @@
--- What two tables together are answered, case by case.
+-- What two tables together are answered, case by case; and what the answer tells of them.
 -- Assumes nothing.
-use mathlib.Core.Path.{_≡_, sym, _∙_}
+use mathlib.Core.Path.{_≡_, sym, _∙_, ap, subst}
 use mathlib.Core.Logic.{_≢_}
 use mathlib.Core.Bool.{true, false}
 use mathlib.Core.List.{List, [], _∷_}
@@ -12,9 +12,10 @@ use Rattle.rules.specs.Pairs.{differing, too-different}
 use Rattle.rules.specs.Questions.{refusal, answer, pair-answer}
 use Rattle.tables.specs.Readings.{outline-of}
 use Rattle.tables.specs.declared.Outline.{Outline}
-use Rattle.rules.specs.Demand1.{IsAccepted}
-use Rattle.rules.proofs.Cases.{applies, quiet-pair}
+use Rattle.rules.specs.Demand1.{IsAccepted, AcceptedTogether}
+use Rattle.rules.proofs.Cases.{applies, quiet-pair, answered-exactly}
 use Rattle.rules.proofs.Lines.{line-applies, line-passes, no-lines-left, table-bad, table-good}
+use Rattle.pairs.specs.declared.Pairing.{Pairing}
 use Rattle.pairs.specs.declared.Pairing.the-variants.{Accepted, Refused}
 use Rattle.pairs.specs.Pairings.{pairing-numbers, Pairs}
 
@@ -57,3 +58,20 @@ module _ (old new : List ℕ) where
           accepted e h =
               let t : too-different (says old) (says new) ≡ false = quiet-pair (says old) (says new) .1 (rw (p, q) at e, rw d at h) in
               (rw (d, q) (sym (good ∙ line-passes _ _ (refusal 8 when too-different (says old) (says new)) [] t ∙ no-lines-left _ _)), (p, q))
+
+-- ---- what the answer tells
+
+module _ (old new : List ℕ) (r : Pairing) (p : Pairs old new r) where
+  pub pairing-accepted : (differ : ℕ) (o n : Outline) → r ≡ Accepted differ o n
+      → AcceptedTogether old new × (o ≡ outline-of old) × (n ≡ outline-of new)
+  unfolding pairing-numbers
+  pairing-accepted differ o n e =
+      let q : Pairs old new (Accepted differ o n) = subst (Pairs old new) e p in
+      (answered-exactly .of-pair old new .0 (sym (ap (λ a. a .refusal .number) (q .0))), q .1 .0, q .1 .1)
+
+  pub pairing-refused : (number table place : ℕ) → r ≡ Refused number table place
+      → (pair-answer old new .refusal ≡ record { number = number; table = table; place = place }) × (number ≢ 0)
+  unfolding pairing-numbers
+  pairing-refused number table place e =
+      let q : Pairs old new (Refused number table place) = subst (Pairs old new) e p in
+      (sym (ap (λ a. a .refusal) (q .0)), q .1)

@@ -4,14 +4,15 @@
 use mathlib.Core.Path.{_≡_, refl, sym, _∙_, ap, ap₂}
 use mathlib.Core.Logic.{_≢_}
 use mathlib.Core.Bool.{Bool, true, false, _&&_, _||_, or-true, false≢true}
-use mathlib.Core.List.{List, [], _∷_, _++_, map, map-append}
+use mathlib.Core.List.{List, [], _∷_, _++_, List·Memᴰ, List·Memᴰ·head, List·Memᴰ·tail, map, map-append}
 use Prim.Native.Nat.{ℕ, zero, suc, _+_, _-_, _≤_, _<_}
 use native.Mathlib.Nat.{sub-zero, zero-sub, suc-sub-suc}
 use native.Mathlib.Decide.{ℕ-discrete}
+use native.Mathlib.Numerals.{add-one}
 use native.Mathlib.Omega.{arith}
 use lib.Dec.{eqb, ltb}
-use lib.ListN.{length, getD, take, drop, replicate, length-append, length-map, List·getD-append, List·getD-eq-default}
-use lib.Seq.{getD-at, take-nil}
+use lib.ListN.{length, getD, take, drop, replicate, length-append, length-map, List·getD-append, List·getD-eq-default, drop-of-length-le}
+use lib.Seq.{getD-at, take-nil, drop-cons}
 use borrow.Author.Tests.{ltb-true, lt-ltb, le-ltb, eq-eqb, ne-eqb}
 use Rattle.rules.specs.Words.{pick, every, those, tally, below, All, Distinct, Rising}
 
@@ -123,6 +124,18 @@ module _ {A : Type 0} where
   All-before P [] y ys h = (tt, h .0)
   All-before P (x ∷ xs) y ys h = let (f, g) = All-before P xs y ys (h .1) in ((h .0, f), g)
 
+  -- of a listed one
+  pub All-listed : (P : A → Type 0) (xs : List A) → All P xs → (x : A) → List·Memᴰ x xs → P x
+  All-listed P [] h x m = elim m [ ]
+  All-listed P (y ∷ xs) h x (List·Memᴰ·head q) = rw q (h .0)
+  All-listed P (y ∷ xs) h x (List·Memᴰ·tail m) = All-listed P xs (h .1) x m
+
+  -- of the one at a place, and of the other that stands for a place behind them
+  pub All-at : (P : A → Type 0) (xs : List A) (other : A) → All P xs → P other → (k : ℕ) → P (getD xs k other)
+  All-at P [] other h o k = o
+  All-at P (x ∷ xs) other h o zero = h .0
+  All-at P (x ∷ xs) other h o (suc k) = All-at P xs other (h .1) o k
+
   -- where values rise, those before an element are lower
   pub lower-before : (f : A → ℕ) (xs : List A) (y : A) (ys : List A) → Rising (map f (xs ++ (y ∷ ys))) → All (λ x. f x < f y) xs
   lower-before f [] y ys h = tt
@@ -147,6 +160,16 @@ module _ {A : Type 0} where
       go true h = omega arith
       go false h = omega arith
 
+  -- of the elements no more pass a test than there are
+  pub those-at-most : (p : A → Bool) (xs : List A) → length (those p xs) ≤ length xs
+  unfolding those
+  those-at-most p [] = omega arith
+  those-at-most p (x ∷ xs) = go (p x) (those-at-most p xs)
+    where
+      go : (t : Bool) → length (those p xs) ≤ length xs → length (pick t (x ∷ those p xs) (those p xs)) ≤ suc (length xs)
+      go true ih = omega arith
+      go false ih = omega arith
+
   pub those-append : (p : A → Bool) (xs ys : List A) → those p (xs ++ ys) ≡ those p xs ++ those p ys
   unfolding those
   those-append p [] ys = refl
@@ -166,6 +189,20 @@ module _ {A : Type 0} where
   unfolding every
   true-every p P f [] h = refl
   true-every p P f (x ∷ xs) h = rw (f x (h .0), true-every p P f xs (h .1))
+
+  -- the same from place i on, one element at a time
+  module _ (p : A → Bool) (xs : List A) (i : ℕ) where
+    pub one-fails : (x : A) (r : Bool) → every p (drop i xs) ≡ r → i < length xs → p (getD xs i x) ≡ false → false ≡ r
+    unfolding every
+    one-fails x r inv h e = sym (rw (drop-cons xs i x, e)) ∙ inv
+
+    pub one-passes : (x : A) (r : Bool) → every p (drop i xs) ≡ r → i < length xs → p (getD xs i x) ≡ true → every p (drop (i + 1) xs) ≡ r
+    unfolding every
+    one-passes x r inv h e = sym (rw (drop-cons xs i x, add-one, e)) ∙ inv
+
+    pub all-passed : (r : Bool) → every p (drop i xs) ≡ r → length xs ≤ i → true ≡ r
+    unfolding every
+    all-passed r inv h = sym (rw (drop-of-length-le xs h)) ∙ inv
 
 -- ---- an element does not depend on what would stand behind the end
 

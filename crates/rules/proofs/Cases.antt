@@ -132,21 +132,21 @@ quiet-pair old new = (
 )
 
 -- a view list that is long enough and has no other bytes than 0 and 1 where it is read
-enough-views : (t : Table) (views : List ℕ) → few-views t views ≡ false → t .routers - 1 ≤ length views
+enough-views : (n : ℕ) (views : List ℕ) → few-views n views ≡ false → n - 1 ≤ length views
 unfolding few-views
-enough-views t views e = omega (arith, ltb-false (length views) _ e)
+enough-views n views e = omega (arith, ltb-false (length views) _ e)
 
-not-few-views : (t : Table) (views : List ℕ) → t .routers - 1 ≤ length views → few-views t views ≡ false
+not-few-views : (n : ℕ) (views : List ℕ) → n - 1 ≤ length views → few-views n views ≡ false
 unfolding few-views
-not-few-views t views h = le-ltb (length views) (t .routers - 1) h
+not-few-views n views h = le-ltb (length views) (n - 1) h
 
-quiet-views : (t : Table) (views : List ℕ)
-    → (bad-views t views ≡ false) ↔ ((t .routers - 1 ≤ length views) × All (λ v. v ≤ 1) (take (t .routers - 1) views))
+quiet-views : (n : ℕ) (views : List ℕ)
+    → (bad-views n views ≡ false) ↔ ((n - 1 ≤ length views) × All (λ v. v ≤ 1) (take (n - 1) views))
 unfolding bad-views
-quiet-views t views =
-    quiet-or (few-views t views) _ (enough-views t views, not-few-views t views) (
-      λ e. every-true (λ v. leb v 1) (λ v. v ≤ 1) (λ v q. leb-true v 1 q) (take (t .routers - 1) views) (not-false _ e),
-      λ h. rw (true-every (λ v. leb v 1) (λ v. v ≤ 1) (λ v q. le-leb v 1 q) (take (t .routers - 1) views) h),
+quiet-views n views =
+    quiet-or (few-views n views) _ (enough-views n views, not-few-views n views) (
+      λ e. every-true (λ v. leb v 1) (λ v. v ≤ 1) (λ v q. leb-true v 1 q) (take (n - 1) views) (not-false _ e),
+      λ h. rw (true-every (λ v. leb v 1) (λ v. v ≤ 1) (λ v q. le-leb v 1 q) (take (n - 1) views) h),
     )
 
 -- ---- the questions
@@ -182,7 +182,7 @@ answered-exactly = record {
       let n = says new .routers in
       let p = quiet-pair (says old) (says new) in
       let r = quiet-routers n n s d in
-      let v = quiet-views (says new) views in
+      let v = quiet-views (says new .routers) views in
       exactly _ _ _ (table-refuses 0 old, (table-refuses 1 new, (λ e. omega arith, (λ e. omega arith, (λ e. omega arith, (λ e. omega arith, tt))))))
       (λ (r₀, (r₁, (r₂, (r₃, (r₄, (r₅, r₆)))))).
       record {
@@ -246,11 +246,11 @@ numbers-in-order = record {
   path-11 = λ old new s d views trace p b c h.
       let n = says new .routers in
       decided 4 _ _ _ (two-accepted old new (p .old-accepted) (p .new-accepted) (together-quiet old new p, (quiet-routers n n s d .1 (b, c), tt)))
-      (applies _ (quiet-views (says new) views) h);
+      (applies _ (quiet-views (says new .routers) views) h);
   path-10 = λ old new s d views trace p b c v g h.
       let n = says new .routers in
       decided 5 _ _ _
-      (two-accepted old new (p .old-accepted) (p .new-accepted) (together-quiet old new p, (quiet-routers n n s d .1 (b, c), (quiet-views (says new) views .1 (v, g), tt))))
+      (two-accepted old new (p .old-accepted) (p .new-accepted) (together-quiet old new p, (quiet-routers n n s d .1 (b, c), (quiet-views (says new .routers) views .1 (v, g), tt))))
       (applies _ (quiet-< (length trace) n) h);
   name-9 = λ table i a h. decided 1 _ _ _ (quiet-table 0 table .1 a, tt) (applies _ (quiet-≤ (says table .routers) i) h);
   two-names-9 = λ old new i a b h.

@@ -1,4 +1,4 @@
--- An accepted table has at most 3,079 bytes, a refusal's place is at most 3,079, and the first 4,096 bytes settle what is read.
+-- An accepted table has at most 3,079 bytes, a refusal's place is at most 3,079, for every question, and the first 4,096 bytes settle what is read.
 -- Assumes nothing.
 use mathlib.Core.Path.{_≡_, refl, _∙_, ap, subst}
 use mathlib.Core.Logic.{_≢_}
@@ -10,11 +10,12 @@ use lib.Dec.{ltb}
 use lib.ListN.{length, take, drop, length-take}
 use lib.Seq.{getD-take, take-take}
 use borrow.Author.Tests.{ltb-true, ltb-false, eqb-true, lt-ltb, le-ltb}
-use Rattle.rules.specs.Words.{pick}
+use Rattle.rules.specs.Words.{pick, Line, All}
 use Rattle.rules.specs.Layout.{Name, tag-routers, tag-name, tag-link, tag-end}
 use Rattle.rules.specs.Table.{byte, name-of, length-allowed, key, Record, Kept, keep, record-in, step, Judged, accepted, refused, followed-by, judge, nothing-behind, read, number-of, place-of}
 use Rattle.rules.specs.Listing.{listing-lines, listing}
-use Rattle.rules.specs.Demand1.{LengthsHold}
+use Rattle.rules.specs.Questions.{Refusal, refusal, table-refusal, answer, read-answer, pair-answer, fill-answer, entry-answer, interfaces-answer, path-answer, name-answer, two-names-answer}
+use Rattle.rules.specs.Demand1.{LengthsHold, PlaceNear, PlacesNear}
 use Rattle.rules.proofs.Basics.{drop-take}
 use Rattle.rules.proofs.Judging.{size-in, contents-in, Good, Judges, stops, ends, goes, judged, judge-judges}
 use Rattle.rules.proofs.Records.{
@@ -35,6 +36,7 @@ use Rattle.rules.proofs.Records.{
   fine-name,
   fine-link,
 }
+use Rattle.rules.proofs.Refusals.{first-holds}
 
 -- ---- places
 
@@ -228,4 +230,37 @@ lengths-hold bytes = record {
   place-near = read-within bytes .1;
   same-reading = read-cut bytes;
   same-listing = ap (λ j. flatten (listing-lines j)) (read-cut bytes);
+}
+
+-- ---- what is answered
+
+-- a line of a question's list gives a near place where it applies
+abbrev LineNear : Line Refusal → Type 0
+LineNear l = l .applies ≡ true → l .gives .place ≤ 3079
+
+table-near : (which : ℕ) (bytes : List ℕ) → LineNear (table-refusal which bytes)
+unfolding table-refusal
+table-near which bytes e = lengths-hold bytes .place-near
+
+-- from 8 upwards the place is 0
+place-0 : {t : Bool} → t ≡ true → 0 ≤ 3079
+place-0 e = omega arith
+
+-- a question whose every line does so
+by-lines : {A : Type 0} (ls : List (Line Refusal)) (zeros values : A) → All LineNear ls → PlaceNear (answer ls zeros values)
+unfolding answer
+by-lines ls zeros values h = first-holds (λ (r : Refusal). r .place ≤ 3079) ls (refusal 0) h (omega arith)
+
+pub places-near : PlacesNear
+unfolding read-answer pair-answer fill-answer entry-answer interfaces-answer path-answer name-answer two-names-answer
+places-near = record {
+  of-read = λ table. by-lines _ _ _ (table-near 0 table, tt);
+  of-pair = λ old new. by-lines _ _ _ (table-near 0 old, (table-near 1 new, (place-0, tt)));
+  of-fill = λ table d costs sets. by-lines _ _ _ (table-near 0 table, (place-0, (place-0, tt)));
+  of-entry = λ table i j d. by-lines _ _ _ (table-near 0 table, (place-0, tt));
+  of-interfaces = λ table i out. by-lines _ _ _ (table-near 0 table, (place-0, (place-0, tt)));
+  of-path = λ old new s d views trace.
+      by-lines _ _ _ (table-near 0 old, (table-near 1 new, (place-0, (place-0, (place-0, (place-0, tt))))));
+  of-name = λ table i. by-lines _ _ _ (table-near 0 table, (place-0, tt));
+  of-two-names = λ old new i. by-lines _ _ _ (table-near 0 old, (table-near 1 new, (place-0, tt)));
 }

@@ -9,19 +9,14 @@ use native.Mathlib.Decide.{decLt}
 use native.Mathlib.Omega.{arith}
 use lib.Dec.{eqb}
 use borrow.Author.Tests.{eqb-true, eqb-false, not-true, eq-eqb, ne-eqb}
-use Rattle.rules.specs.Words.{pick, tally, All, Rising}
+use Rattle.rules.specs.Words.{pick, tally, Rising}
 use Rattle.rules.specs.Layout.{Link, Table, LinkFits, pair-number, Obeys}
 use Rattle.rules.specs.Links.{joins, weight-in, weight}
 use Rattle.rules.specs.Pairs.{differing}
 use Rattle.rules.specs.Demand1.{SameEnds, OneChange, DiffersExactly}
 use Rattle.rules.specs.Demand3.{Together}
+use Rattle.rules.proofs.Basics.{All-listed}
 use Rattle.rules.proofs.Weights.{ends-of, weight-both-ways, own}
-
--- what holds of every element holds of a listed one
-of-listed : {A : Type 0} (P : A → Type 0) (xs : List A) → All P xs → (x : A) → List·Memᴰ x xs → P x
-of-listed P [] h x m = elim m [ ]
-of-listed P (y ∷ xs) h x (List·Memᴰ·head q) = rw q (h .0)
-of-listed P (y ∷ xs) h x (List·Memᴰ·tail m) = of-listed P xs (h .1) x m
 
 -- ---- counting the links that pass a test
 
@@ -70,7 +65,7 @@ module _ (p : Link → Bool) where
       go : (t : Bool) → p k ≡ t → Dec (0 < tally p ls) → tally p ls ≤ 1 → pick t 1 0 + tally p ls ≤ 1
       go true e (yes h) ih =
           let (m, i, s) = passing ls h in
-          let higher : pair-number k < pair-number m = of-listed (λ x. pair-number k < x) (map pair-number ls) (r .0) (pair-number m) (Memᴰ·map pair-number i) in
+          let higher : pair-number k < pair-number m = All-listed (λ x. pair-number k < x) (map pair-number ls) (r .0) (pair-number m) (Memᴰ·map pair-number i) in
           absurd (omega (arith, same k m (List·Memᴰ·head refl) (List·Memᴰ·tail i) e s))
       go true e (no h) ih = omega arith
       go false e d ih = omega arith
@@ -113,11 +108,11 @@ same-pair n l m f g (inr e) = omega arith
 
 module _ {t : Table} (o : Obeys t) (l : Link) (m : List·Memᴰ l (t .links)) where
   fits : LinkFits (t .routers) l
-  fits = of-listed (LinkFits (t .routers)) (t .links) (o .links-fit) l m
+  fits = All-listed (LinkFits (t .routers)) (t .links) (o .links-fit) l m
 
   own-weight : weight t (l .a) (l .b) ≡ l .weight
   own-weight =
-      of-listed (λ l. weight t (l .a) (l .b) ≡ l .weight) (t .links) (own (t .routers) (t .links) (o .links-fit) (o .links-rise)) l m
+      All-listed (λ l. weight t (l .a) (l .b) ≡ l .weight) (t .links) (own (t .routers) (t .links) (o .links-fit) (o .links-rise)) l m
 
 -- ---- the links that differ
 

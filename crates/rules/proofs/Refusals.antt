@@ -40,7 +40,7 @@ use Rattle.rules.proofs.Lines.{table-bad, table-good}
 use Rattle.rules.proofs.Judging.{Judges, stops, ends, goes, judge-judges}
 
 -- what holds of all that an applying line gives, and of what stands behind `otherwise`, holds of the first that applies
-first-holds : {A : Type 0} (P : A → Type 0) (ls : List (Line A)) (a : A) → All (λ l. l .applies ≡ true → P (l .gives)) ls → P a
+pub first-holds : {A : Type 0} (P : A → Type 0) (ls : List (Line A)) (a : A) → All (λ l. l .applies ≡ true → P (l .gives)) ls → P a
     → P (first ls otherwise a)
 first-holds P [] a hs h = h
 first-holds P (l ∷ ls) a hs h = go (l .applies) (hs .0) (first-holds P ls a (hs .1) h)

@@ -7,7 +7,7 @@ use mathlib.Core.List.{List, [], _∷_, map, List·Memᴰ}
 use mathlib.Core.Option.{none, some}
 use Prim.Native.Nat.{ℕ, suc, _+_, _-_, _*_, _≤_, _<_}
 use lib.ListN.{length, getD, take, drop}
-use Rattle.rules.specs.Words.{All, below}
+use Rattle.rules.specs.Words.{_=?_, pick, All, below}
 use Rattle.rules.specs.Layout.{Bytes, Name, Obeys, Table, written}
 use Rattle.rules.specs.Table.{number-of, place-of, read, refused, says}
 use Rattle.rules.specs.Links.{weight}
@@ -15,7 +15,7 @@ use Rattle.rules.specs.Pairs.{differing, too-different}
 use Rattle.rules.specs.Costs.{cost}
 use Rattle.rules.specs.NextHops.{chosen, next-hops, size}
 use Rattle.rules.specs.Entries.{code, entry, interfaces}
-use Rattle.rules.specs.Names.{empty-part, part-bytes}
+use Rattle.rules.specs.Names.{Part, empty-part, part-bytes}
 use Rattle.rules.specs.Listing.{listing}
 use Rattle.rules.specs.Questions.{Answer, chosen-answer, costs-after, ending, entry-answer, fill-answer, interfaces-after, interfaces-answer, link-answer, name-answer, name-for, name-part, no-more, of-table, pair-answer, path-answer, read-answer, refusal, sets-after, trace-after, trip-of, two-names-answer, two-names-part}
 
@@ -256,6 +256,20 @@ pub record Lengths (bytes : List ℕ) : Type 0 where
 abbrev pub LengthsHold : Type 0
 LengthsHold = (bytes : List ℕ) → Lengths bytes
 
+-- no question's refusal has its place behind that
+abbrev pub PlaceNear : {A : Type 0} → Answer A → Type 0
+PlaceNear a = a .refusal .place ≤ 3079
+
+pub record PlacesNear : Type 0 where
+  pub of-read : (table : List ℕ) → PlaceNear (read-answer table)
+  pub of-pair : (old new : List ℕ) → PlaceNear (pair-answer old new)
+  pub of-fill : (table : List ℕ) (d : ℕ) (costs sets : List ℕ) → PlaceNear (fill-answer table d costs sets)
+  pub of-entry : (table : List ℕ) (i j d : ℕ) → PlaceNear (entry-answer table i j d)
+  pub of-interfaces : (table : List ℕ) (i : ℕ) (out : List ℕ) → PlaceNear (interfaces-answer table i out)
+  pub of-path : (old new : List ℕ) (s d : ℕ) (views trace : List ℕ) → PlaceNear (path-answer old new s d views trace)
+  pub of-name : (table : List ℕ) (i : ℕ) → PlaceNear (name-answer table i)
+  pub of-two-names : (old new : List ℕ) (i : ℕ) → PlaceNear (two-names-answer old new i)
+
 -- ---- names (proofs/Names)
 
 -- the name of a router is the very bytes inside the table
@@ -281,3 +295,17 @@ pub record PartOfTwo (old new : List ℕ) (i : ℕ) : Type 0 where
 
 abbrev pub PartsOfTwoAreNames : Type 0
 PartsOfTwoAreNames = (old new : List ℕ) (i : ℕ) → PartOfTwo old new i
+
+-- a name that is handed back: 1 to 16 bytes within these bytes, of which there are 3,079 at most
+pub record PartFits (bytes : List ℕ) (part : Part) : Type 0 where
+  pub of-a-table : part .table ≤ 1
+  pub not-empty : 1 ≤ part .size
+  pub not-long : part .size ≤ 16
+  pub within : part .place + part .size ≤ length bytes
+  pub not-far : length bytes ≤ 3079
+
+pub record PartsFit : Type 0 where
+  pub of-name : (table : List ℕ) (i : ℕ) → name-answer table i .values ≡ 1 → PartFits table (name-part table i)
+  -- table 0 is the old one, 1 the new
+  pub of-two-names : (old new : List ℕ) (i : ℕ)
+      → two-names-answer old new i .values ≡ 1 → PartFits (pick (two-names-part old new i .table =? 0) old new) (two-names-part old new i)

@@ -7,7 +7,7 @@ use mathlib.Core.Option.{Option}
 use Prim.Native.Nat.{ℕ, _+_, _-_, _*_}
 use lib.ListN.{length, take, drop, getD}
 use Rattle.rules.specs.Words.{_=?_, _<?_, _≤?_, pick, Line, _when_, first_otherwise_, every, below}
-use Rattle.rules.specs.Layout.{Table, Name, Link}
+use Rattle.rules.specs.Layout.{Name, Link}
 use Rattle.rules.specs.Table.{read, number-of, place-of, says}
 use Rattle.rules.specs.Pairs.{differing, too-different}
 use Rattle.rules.specs.Costs.{cost}
@@ -151,12 +151,12 @@ abbrev pub ending : Trip → Ending
 ending trip = record { outcome = outcome-code (trip .outcome); router = trip .router; hops = trip .hops }
 
 -- a view list shorter than N − 1
-unfoldable pub few-views : Table → List ℕ → Bool
-few-views t views = length views <? t .routers - 1
+unfoldable pub few-views : ℕ → List ℕ → Bool
+few-views n views = length views <? n - 1
 
 -- 11: a view list shorter than N − 1, or a byte other than 0 and 1 among its first N − 1
-unfoldable pub bad-views : Table → List ℕ → Bool
-bad-views t views = few-views t views || not (every (λ v. v ≤? 1) (take (t .routers - 1) views))
+unfoldable pub bad-views : ℕ → List ℕ → Bool
+bad-views n views = few-views n views || not (every (λ v. v ≤? 1) (take (n - 1) views))
 
 -- the path that the views of a list give
 unfoldable pub trip-of : List ℕ → List ℕ → ℕ → ℕ → List ℕ → Trip
@@ -170,7 +170,7 @@ path-refusals old new s d views trace =
     ∷ table-refusal 1 new
     ∷ refusal 8 when too-different (says old) t
     ∷ refusal 9 when (bad-router (t .routers) s || bad-router (t .routers) d)
-    ∷ refusal 11 when bad-views t views
+    ∷ refusal 11 when bad-views (t .routers) views
     ∷ refusal 10 when (length trace <? t .routers)
     ∷ []
 

@@ -151,9 +151,12 @@ module _ (bytes : List ℕ) where
       q : Reads bytes (Refused number place)
       q = subst (Reads bytes) e p
 
-  -- the outline's routers are the table's, 64 at most
+  -- the outline's routers are the table's, from 1 to 64
   pub own-routers : (t : Outline) → t ≡ outline-of bytes → t .routers ≡ says bytes .routers
   own-routers t q = ap (λ (o : Outline). o .routers) q
 
   pub few-routers : IsAccepted bytes → (t : Outline) → t ≡ outline-of bytes → t .routers ≤ 64
   few-routers a t q = omega (arith, own-routers t q, obeys bytes a .few-routers)
+
+  pub some-routers : IsAccepted bytes → (t : Outline) → t ≡ outline-of bytes → 1 ≤ t .routers
+  some-routers a t q = omega (arith, own-routers t q, obeys bytes a .some-routers)

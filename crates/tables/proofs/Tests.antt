@@ -6,15 +6,13 @@ use mathlib.Core.Bool.{Bool, true, false, _&&_, _||_, not, or-true, and-false}
 use mathlib.Core.List.{List}
 use Prim.Native.Nat.{ℕ, zero, suc, _+_, _≤_, _<_}
 use native.Mathlib.Omega.{arith}
-use native.Mathlib.Numerals.{add-one}
 use lib.Dec.{eqb, ltb, leb}
-use lib.ListN.{length, drop, drop-of-length-le}
-use lib.Seq.{drop-cons}
+use lib.ListN.{length, drop}
 use borrow.Author.Tests.{eq-eqb, ne-eqb, eqb-true, leb-true, lt-ltb, le-ltb, le-leb, lt-leb}
 use Rattle.rules.specs.Words.{every}
 use Rattle.rules.specs.Layout.{tag-routers, tag-name, tag-link, tag-end}
 use Rattle.rules.specs.Table.{byte, two-bytes, link-of, known-tag, length-allowed, routers-fit, name-byte, name-fits, link-fits, contents-fit, key, Kept, bad-tag}
-use Rattle.rules.proofs.Basics.{both}
+use Rattle.rules.proofs.Basics.{both, one-fails, one-passes}
 
 -- ---- the tag
 
@@ -107,20 +105,16 @@ routers-some n e = rw (le-leb 1 n (omega arith))
 -- one byte of a name; what is known of the bytes from place i on comes first
 module _ (contents : List ℕ) (i : ℕ) (r : Bool) (inv : every name-byte (drop i contents) ≡ r) where
   pub byte-low : i < length contents → byte contents i < 0x21 → false ≡ r
-  unfolding every name-byte
-  byte-low h e = sym (rw (drop-cons contents i 0, lt-leb 0x21 (byte contents i) e)) ∙ inv
+  unfolding name-byte
+  byte-low h e = one-fails name-byte contents i 0 r inv h (rw (lt-leb 0x21 (byte contents i) e))
 
   pub byte-high : i < length contents → 0x7E < byte contents i → false ≡ r
-  unfolding every name-byte
-  byte-high h e = sym (rw (drop-cons contents i 0, lt-leb (byte contents i) 0x7E e, and-false (leb 0x21 (byte contents i)))) ∙ inv
+  unfolding name-byte
+  byte-high h e = one-fails name-byte contents i 0 r inv h (rw (lt-leb (byte contents i) 0x7E e) (and-false (leb 0x21 (byte contents i))))
 
   pub byte-plain : i < length contents → 0x21 ≤ byte contents i → byte contents i ≤ 0x7E → every name-byte (drop (i + 1) contents) ≡ r
-  unfolding every name-byte
-  byte-plain h e f = sym (rw (drop-cons contents i 0, add-one, le-leb 0x21 (byte contents i) e, le-leb (byte contents i) 0x7E f)) ∙ inv
-
-  pub bytes-over : length contents ≤ i → true ≡ r
-  unfolding every
-  bytes-over h = sym (rw (drop-of-length-le contents h)) ∙ inv
+  unfolding name-byte
+  byte-plain h e f = one-passes name-byte contents i 0 r inv h (rw (le-leb 0x21 (byte contents i) e, le-leb (byte contents i) 0x7E f))
 
 module _ (contents : List ℕ) (n : ℕ) where
   pub name-inside : byte contents 0 < n → (plain : Bool) → plain ≡ every name-byte (drop 1 contents) → plain ≡ name-fits n (byte contents 0) (drop 1 contents)

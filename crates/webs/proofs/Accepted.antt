@@ -1,4 +1,4 @@
--- The web of an accepted table says the table's weights.
+-- The web of an accepted table says the table's weights, and its sets have the routers that a link of the table joins.
 -- Assumes nothing.
 use mathlib.Core.Path.{_≡_, refl, sym, _∙_, ap, subst}
 use mathlib.Core.Logic.{inl, inr}
@@ -9,10 +9,11 @@ use native.Mathlib.Omega.{arith}
 use lib.ListN.{length, getD, take, drop}
 use lib.Seq.{take-length, take-suc, split-at}
 use borrow.Author.Tests.{lt-ltb}
-use Rattle.rules.specs.Words.{pick, All, Rising}
+use Rattle.rules.specs.Words.{_<?_, pick, All, Rising}
 use Rattle.rules.specs.Layout.{Link, LinkFits, pair-number, Obeys}
 use Rattle.rules.specs.Table.{link-fits, says}
 use Rattle.rules.specs.Links.{joins, weight-in, weight}
+use Rattle.rules.specs.NextHops.{has}
 use Rattle.rules.specs.Demand1.{IsAccepted, SameEnds}
 use Rattle.rules.specs.Questions.{no-more, link-in, link-answer}
 use Rattle.rules.proofs.Basics.{pick-t, All-before, lower-before}
@@ -25,7 +26,7 @@ use Rattle.links.specs.Links.{link-at}
 use Rattle.links.proofs.Stand.{link-by-number}
 use Rattle.webs.specs.declared.Web.{Web}
 use Rattle.webs.specs.Webs.{web-weight, web-by, web-at, laid}
-use Rattle.webs.proofs.Webs.{web-is}
+use Rattle.webs.proofs.Webs.{near-says, web-is}
 use Rattle.webs.proofs.Laying.{next-laid}
 
 -- ---- the order of links does not matter where no two have the same ends
@@ -125,12 +126,16 @@ module _ (bytes : List ℕ) (e : IsAccepted bytes) where
   all-laid : weight-in (laid bytes (links-start bytes) (length links)) ≡ weight (says bytes)
   all-laid = first-laid (length links) (omega arith) ∙ ap weight-in (take-length links)
 
--- the web of an accepted table's links says the table's weights
-pub accepted-web : (bytes : List ℕ) → IsAccepted bytes → (t : Outline) → t ≡ outline-of bytes
-    → (web : Web) → web ≡ web-at bytes t → web-weight web ≡ weight (says bytes)
-unfolding web-at
-accepted-web bytes e t q web p =
-    ap web-weight p
-    ∙ ap (λ (o : Outline). web-weight (web-by (weight-in (laid bytes (o .start) (o .links))))) q
-    ∙ ap (λ w. web-weight (web-by w)) (all-laid bytes e)
-    ∙ web-is (wide (says bytes) (obeys bytes e))
+module _ (bytes : List ℕ) (e : IsAccepted bytes) (t : Outline) (q : t ≡ outline-of bytes) (web : Web) (p : web ≡ web-at bytes t) where
+  -- the web of an accepted table's links is that of the table's weights
+  own-web : web ≡ web-by (weight (says bytes))
+  unfolding web-at
+  own-web = p ∙ ap (λ (o : Outline). web-by (weight-in (laid bytes (o .start) (o .links)))) q ∙ ap web-by (all-laid bytes e)
+
+  -- it says the table's weights
+  pub accepted-web : web-weight web ≡ weight (says bytes)
+  accepted-web = ap web-weight own-web ∙ web-is (wide (says bytes) (obeys bytes e))
+
+  -- its sets have the routers that a link of the table joins
+  pub accepted-near : (i k : ℕ) → has (getD (web .near) i 0) k ≡ (0 <? weight (says bytes) i k)
+  accepted-near i k = ap (λ (v : Web). has (getD (v .near) i 0) k) own-web ∙ near-says (wide (says bytes) (obeys bytes e)) i k

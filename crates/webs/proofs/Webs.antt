@@ -3,13 +3,13 @@
 use mathlib.Core.Path.{_≡_, refl, sym, _∙_, ap, ap₂}
 use mathlib.Core.Bool.{Bool, true, false, false≢true}
 use mathlib.Core.List.{List, map}
-use Prim.Native.Nat.{ℕ, zero, suc, _+_, _*_, _/_, _%_, _≤_, _<_}
+use Prim.Native.Nat.{ℕ, _+_, _*_, _/_, _%_, _≤_, _<_}
 use native.Mathlib.Decide.{decLt}
 use native.Mathlib.Omega.{arith}
 use mir.Syntax.{w16, w64}
 use mir.Val.{Fits}
 use lib.ListN.{length, getD, List·getD-eq-default}
-use borrow.Author.Tests.{lt-ltb}
+use borrow.Author.Tests.{lt-ltb, le-ltb}
 use Rattle.rules.specs.Words.{_<?_, pick, below}
 use Rattle.rules.specs.NextHops.{has, set-of}
 use Rattle.rules.proofs.Basics.{pick-t, pick-f, value-at, value-behind}
@@ -68,43 +68,45 @@ module _ (near weights : List ℕ) (h : IsWeb near weights) where
 
 -- the web of weights says these weights
 module _ {w : ℕ → ℕ → ℕ} (𝓝 : Net 64 w) where
-  none-outside : (i k : ℕ) → ((i < 64) × (k < 64) → ⊥) → 0 ≡ w i k
-  none-outside i k h = go (decLt 0 (w i k))
-    where
-      go : Dec (0 < w i k) → 0 ≡ w i k
-      go (yes p) = absurd (h (𝓝 .inside i k p))
-      go (no p) = omega arith
-
-  web-says : (i k : ℕ) → web-weight (web-by w) i k ≡ w i k
-  unfolding web-by weight-over
-  web-says i k = go (decLt i 64) (decLt k 64)
+  -- a router's set has those that it is linked to
+  pub near-says : (i k : ℕ) → has (getD (web-by w .near) i 0) k ≡ (0 <? w i k)
+  unfolding web-by
+  near-says i k = go (decLt i 64) (decLt k 64)
     where
       row : ℕ → ℕ
       row i = set-of (λ k. 0 <? w i k) 64
 
-      rows : List ℕ
-      rows = map row (below 64)
+      none-outside : ((i < 64) × (k < 64) → ⊥) → false ≡ (0 <? w i k)
+      none-outside h = sym (le-ltb 0 (w i k) (none (decLt 0 (w i k))))
+        where
+          none : Dec (0 < w i k) → w i k ≤ 0
+          none (yes p) = absurd (h (𝓝 .inside i k p))
+          none (no p) = omega arith
 
+      go : Dec (i < 64) → Dec (k < 64) → has (getD (map row (below 64)) i 0) k ≡ (0 <? w i k)
+      go (no a) e = ap (λ s. has s k) (value-behind row 64 i 0 (omega arith)) ∙ nobody k ∙ none-outside (λ h. a (h .0))
+      go (yes a) (no b) =
+          ap (λ s. has s k) (value-at row 64 i 0 a)
+          ∙ has-below (row i) 64 k (set-below (λ k. 0 <? w i k) 64) (omega arith)
+          ∙ none-outside (λ h. b (h .1))
+      go (yes a) (yes b) = ap (λ s. has s k) (value-at row 64 i 0 a) ∙ set-has (λ k. 0 <? w i k) 64 k b
+
+  web-says : (i k : ℕ) → web-weight (web-by w) i k ≡ w i k
+  unfolding web-by weight-over
+  web-says i k = ap (λ t. pick t (getD weights (64 * i + k) 0) 0) (near-says i k) ∙ go (decLt 0 (w i k))
+    where
       weights : List ℕ
       weights = map (λ z. w (z / 64) (z % 64)) (below 4096)
 
-      linked-only : (n : ℕ) → pick (0 <? n) n 0 ≡ n
-      linked-only zero = refl
-      linked-only (suc n) = pick-t _ _ _ (lt-ltb 0 (suc n) (omega arith))
-
-      go : Dec (i < 64) → Dec (k < 64) → pick (has (getD rows i 0) k) (getD weights (64 * i + k) 0) 0 ≡ w i k
-      go (no a) e =
-          let z : getD rows i 0 ≡ 0 = value-behind row 64 i 0 (omega arith) in
-          pick-f _ _ _ (ap (λ s. has s k) z ∙ nobody k) ∙ none-outside i k (λ h. a (h .0))
-      go (yes a) (no b) =
-          pick-f _ _ _ (ap (λ s. has s k) (value-at row 64 i 0 a) ∙ has-below (row i) 64 k (set-below (λ k. 0 <? w i k) 64) (omega arith))
-          ∙ none-outside i k (λ h. b (h .1))
-      go (yes a) (yes b) =
-          let s : has (getD rows i 0) k ≡ (0 <? w i k) = ap (λ s. has s k) (value-at row 64 i 0 a) ∙ set-has (λ k. 0 <? w i k) 64 k b in
+      go : Dec (0 < w i k) → pick (0 <? w i k) (getD weights (64 * i + k) 0) 0 ≡ w i k
+      go (yes p) =
+          let h = 𝓝 .inside i k p in
           let q : (64 * i + k) / 64 ≡ i = omega arith in
           let r : (64 * i + k) % 64 ≡ k = omega arith in
-          let v : getD weights (64 * i + k) 0 ≡ w i k = value-at (λ z. w (z / 64) (z % 64)) 4096 (64 * i + k) 0 (omega arith) ∙ ap₂ w q r in
-          rw (s, v) (linked-only (w i k))
+          pick-t _ _ _ (lt-ltb 0 (w i k) p) ∙ value-at (λ z. w (z / 64) (z % 64)) 4096 (64 * i + k) 0 (omega arith) ∙ ap₂ w q r
+      go (no p) =
+          let z : 0 ≡ w i k = omega arith in
+          pick-f _ _ _ (le-ltb 0 (w i k) (omega arith)) ∙ z
 
   pub web-is : web-weight (web-by w) ≡ w
   web-is = λ j i k. web-says i k j

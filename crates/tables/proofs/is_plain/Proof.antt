@@ -7,7 +7,8 @@ use lib.ListN.{length, drop}
 use borrow.Author.Needs.{needs}
 use Rattle.rules.specs.Words.{every}
 use Rattle.rules.specs.Table.{name-byte}
-use Rattle.tables.proofs.Tests.{byte-low, byte-high, byte-plain, bytes-over}
+use Rattle.rules.proofs.Basics.{all-passed}
+use Rattle.tables.proofs.Tests.{byte-low, byte-high, byte-plain}
 use Rattle.tables.proofs.is_plain.Statement.{statement}
 use Rattle.tables.proofs.is_plain.Tie as tie
 
@@ -50,7 +51,7 @@ loop-again c =
 returns-3 : tie.Need-returns-3 Inv-loop μ-loop
 returns-3 c =
     let m = c .before in
-    bytes-over (m .before .args .contents .now) (m .loop .i) _ (m .loop .inv) (omega arith)
+    all-passed name-byte (m .before .args .contents .now) (m .loop .i) _ (m .loop .inv) (omega arith)
 
 pub is-plain-spec : {M : Type 1} → statement M
 is-plain-spec =

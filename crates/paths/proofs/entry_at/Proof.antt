@@ -1,0 +1,52 @@
+-- `paths::entry_at` meets its contract.
+-- Assumes nothing.
+use native.Mathlib.Omega.{arith}
+use borrow.Author.Needs.{needs}
+use Rattle.paths.proofs.Walking.{found-home, found-new, found-old}
+use Rattle.paths.proofs.entry_at.Statement.{statement}
+use Rattle.paths.proofs.entry_at.Tie as tie
+
+returns : tie.Need-returns
+returns c = found-home _ _ _ _ _ _ _ (c .if1 .taken)
+
+shared-slice-read-if2 : tie.Need-shared-slice-read-if2
+shared-slice-read-if2 c = omega (arith, c .before .before .before .pre .3 (c .before .if1 .left))
+
+mul-decide : tie.Need-mul-decide
+mul-decide c = search needs
+
+element-copy-out-decide : tie.Need-element-copy-out-decide
+element-copy-out-decide c = search needs
+
+decide-requires : tie.Need-decide-requires
+decide-requires c κs = search needs
+
+returns-2 : tie.Need-returns-2
+returns-2 c = found-new _ _ _ _ _ _ _ _ (c .before .before .if2 .taken) (c .decide .ensures)
+
+mul-decide-2 : tie.Need-mul-decide-2
+mul-decide-2 c = search needs
+
+element-copy-out-decide-2 : tie.Need-element-copy-out-decide-2
+element-copy-out-decide-2 c = search needs
+
+decide-requires-2 : tie.Need-decide-requires-2
+decide-requires-2 c κs = search needs
+
+returns-3 : tie.Need-returns-3
+returns-3 c = found-old _ _ _ _ _ _ _ _ (c .before .before .if2 .left) (c .decide2 .ensures)
+
+pub entry-at-spec : {M : Type 1} → statement M
+entry-at-spec =
+    tie.close
+    (tie.spec
+    returns
+    shared-slice-read-if2
+    mul-decide
+    element-copy-out-decide
+    decide-requires
+    returns-2
+    mul-decide-2
+    element-copy-out-decide-2
+    decide-requires-2
+    returns-3)
