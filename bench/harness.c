@@ -42,8 +42,7 @@ __asm__(SKIP(LAYOUT));
 uint64_t tracer_read(const uint8_t *, size_t);
 uint64_t tracer_fill(const uint8_t *, size_t, uint64_t, uint32_t *, size_t, uint64_t *, size_t);
 uint64_t tracer_interfaces(const uint8_t *, size_t, uint64_t, uint8_t *, size_t);
-uint64_t tracer_path(const uint8_t *, size_t, const uint8_t *, size_t, uint64_t, uint64_t, const uint8_t *, size_t, uint8_t *, size_t)
-    __attribute__((weak)); /* a library without it is measured without it */
+uint64_t tracer_path(const uint8_t *, size_t, const uint8_t *, size_t, uint64_t, uint64_t, const uint8_t *, size_t, uint8_t *, size_t);
 
 struct side {
     const char *name;
@@ -265,11 +264,6 @@ static void make_input(enum input_name name, struct input *in)
 enum job { JUDGE, FILL, PAIRS, PATH, INTERFACES, JOBS };
 static const char *const job_names[JOBS] = {"judge", "fill", "pairs", "path", "interfaces"};
 
-static int has_job(const struct side *side, enum job job)
-{
-    return job != PATH || side->path;
-}
-
 static uint64_t do_job(const struct side *side, enum job job, const struct input *in)
 {
     static uint32_t costs[N];
@@ -353,9 +347,8 @@ static void ask(const struct side *side, const struct question *q, struct reply 
     r->read = side->read(q->old->at, q->old->length);
     r->fill = side->fill(q->old->at, q->old->length, q->destination, r->costs, q->costs_length, r->sets, q->sets_length);
     r->interfaces = side->interfaces(q->old->at, q->old->length, q->router, r->out, q->out_length);
-    if (side->path)
-        r->path = side->path(q->old->at, q->old->length, q->new->at, q->new->length, q->source, q->destination,
-                             q->views, q->views_length, r->trace, q->trace_length);
+    r->path = side->path(q->old->at, q->old->length, q->new->at, q->new->length, q->source, q->destination,
+                         q->views, q->views_length, r->trace, q->trace_length);
 }
 
 static int is_refusal(uint64_t answer)
@@ -380,7 +373,7 @@ static void ask_both(const struct question *q)
         fail("fill", q);
     if (p->interfaces != l->interfaces || memcmp(p->out, l->out, sizeof p->out))
         fail("interfaces", q);
-    if (sides[1].path && (p->path != l->path || memcmp(p->trace, l->trace, sizeof p->trace)))
+    if (p->path != l->path || memcmp(p->trace, l->trace, sizeof p->trace))
         fail("path", q);
     if (is_refusal(p->fill) && (memcmp(p->costs, blank.costs, sizeof p->costs) || memcmp(p->sets, blank.sets, sizeof p->sets)))
         fail("a refused fill wrote", q);
@@ -610,8 +603,7 @@ static void check(void)
             fail("a number was answered to no path", 0);
     if (!ended[DELIVERED] || !ended[DISCARDED] || !ended[NO_ROUTE] || !ended[LOST])
         fail("an outcome was answered to no path", 0);
-    printf("%u questions of each kind, answered alike by both sides to the last byte%s\n", asked,
-           sides[1].path ? "" : "; the library has no tracer_path");
+    printf("%u questions of each kind, answered alike by both sides to the last byte\n", asked);
 }
 
 /* ---- measuring */
@@ -664,8 +656,6 @@ static void measure(unsigned rounds)
             for (unsigned j = 0; j < JOBS; j++)
                 for (unsigned k = 0; k < 2; k++) {
                     unsigned s = (r + k) % 2;
-                    if (!has_job(&sides[s], (enum job)j))
-                        continue;
                     sink = do_job(&sides[s], (enum job)j, &in[i]);
                     double t = time_of(&sides[s], (enum job)j, &in[i], batch[j][i]) / batch[j][i];
                     if (t < least[j][i][s])
@@ -674,8 +664,7 @@ static void measure(unsigned rounds)
     for (unsigned j = 0; j < JOBS; j++)
         for (unsigned i = 0; i < INPUTS; i++)
             for (unsigned s = 0; s < 2; s++)
-                if (has_job(&sides[s], (enum job)j))
-                    printf("%s %s %s %.1f\n", job_names[j], input_names[i], sides[s].name, least[j][i][s]);
+                printf("%s %s %s %.1f\n", job_names[j], input_names[i], sides[s].name, least[j][i][s]);
 }
 
 static void list(void)
@@ -715,10 +704,6 @@ static void run(const char *side, const char *job, const char *input, int times)
     enum job j = (enum job)named(job, job_names, JOBS);
 
     make_input((enum input_name)named(input, input_names, INPUTS), &in);
-    if (!has_job(s, j)) {
-        printf("no such job on this side: %s\n", job);
-        exit(2);
-    }
     for (int i = 0; i < times; i++)
         sink = do_job(s, j, &in);
 }

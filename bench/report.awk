@@ -16,7 +16,7 @@ $1 == "input" {
 !(($1, $2, $3) in value) || $4 < value[$1, $2, $3] { value[$1, $2, $3] = $4 }
 
 function table(job, head,    i, x) {
-    if (!((job, inputs[1], "library") in value))
+    if (!((job, inputs[1], "library") in value)) # all pairs, where instructions are counted
         return
     printf "\n| %s | plain C, %s | library, %s | ratio |\n|---|---:|---:|---:|\n", head, unit, unit
     for (i = 1; i <= count; i++) {
@@ -72,12 +72,10 @@ END {
             if (i != k && links[inputs[i]] == links[inputs[k]])
                 take(value["fill", inputs[i], "library"] / value["fill", inputs[k], "library"], title[inputs[i]] " to " title[inputs[k]])
     tell("library's fill, a table to another with as many links", 3)
-    if (("path", inputs[1], "library") in value) {
-        start()
-        for (i = 1; i <= count; i++)
-            take(value["path", inputs[i], "library"] / value["fill", inputs[i], "library"], title[inputs[i]])
-        tell("library's path in fills of the same table", 2.5)
-    }
+    start()
+    for (i = 1; i <= count; i++)
+        take(value["path", inputs[i], "library"] / value["fill", inputs[i], "library"], title[inputs[i]])
+    tell("library's path in fills of the same table", 2.5)
     start()
     for (i = 1; i <= count; i++)
         take(value["interfaces", inputs[i], "library"] / value["fill", inputs[i], "library"] / (neighbours[inputs[i]] + 1), title[inputs[i]])
