@@ -28,11 +28,6 @@ use Rattle.tables.specs.declared.Outline.{Outline}
 use Rattle.tables.proofs.Asked.{own-routers, few-routers}
 use Rattle.sets.proofs.Members.{nobody}
 use Rattle.sets.proofs.Bits.{has-joined}
-use Rattle.webs.specs.declared.Web.{Web}
-use Rattle.webs.specs.Webs.{web-at, web-weight}
-use Rattle.search.specs.declared.Found.{Found}
-use Rattle.search.specs.Search.{found-from}
-use Rattle.search.proofs.OfTable.{found-sets}
 use Rattle.entries.specs.declared.Entry.{Entry}
 use Rattle.entries.specs.Entries.{entry-told, rules-by}
 use Rattle.entries.proofs.Entries.{delivers, cut-off, drops, sends, by-set}
@@ -187,16 +182,9 @@ module _ (t : Table) (o : Obeys t) (sets : List ℕ) (i : ℕ) (e : sets ≡ map
     unfolding interfaces row rows
     whole-table = rows-same (cell-from sets codes i) (cell t i) (t .routers) (t .routers) cell-at
 
--- the rows over the web of an accepted table
+-- the rows by the next-hop sets of an accepted table
 module _ (table : List ℕ) (a : IsAccepted table) (t : Outline) (q : t ≡ outline-of table)
-    (web : Web) (e : web ≡ web-at table t)
-    (i : ℕ) (found : Found) (f : found ≡ found-from (web-weight web) i) where
-  abbrev sets : List ℕ
-  sets = found .sets
-
-  own-sets : sets ≡ map (next-hops (says table) i) (below 64)
-  own-sets = found-sets table a t q web e i found f
-
+    (i : ℕ) (sets : List ℕ) (e : sets ≡ map (next-hops (says table) i) (below 64)) where
   own-n : t .routers ≡ says table .routers
   own-n = own-routers table t q
 
@@ -206,4 +194,4 @@ module _ (table : List ℕ) (a : IsAccepted table) (t : Outline) (q : t ≡ outl
   rows-of-table h codes c lent out g =
       g
       ∙ ap (λ r. r ++ drop ((t .routers + 1) * t .routers) lent)
-      (ap (λ n. rows (cell-from sets codes i) n n) own-n ∙ whole-table (says table) (obeys table a) sets i own-sets codes c (omega (arith, own-n)))
+      (ap (λ n. rows (cell-from sets codes i) n n) own-n ∙ whole-table (says table) (obeys table a) sets i e codes c (omega (arith, own-n)))

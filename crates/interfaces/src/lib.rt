@@ -5,7 +5,7 @@ ghost use Prim.Native.Nat.{_+_, _*_, _≤_, _<_};
 ghost use lib.ListN.{length, getD, drop, replicate};
 ghost use Rattle.rules.specs.Words.{pick, below};
 ghost use Rattle.rules.specs.Table.{says};
-ghost use Rattle.rules.specs.NextHops.{has};
+ghost use Rattle.rules.specs.NextHops.{has, next-hops};
 ghost use Rattle.rules.specs.Entries.{interfaces};
 ghost use Rattle.rules.specs.Demand1.{IsAccepted};
 ghost use Rattle.tables.specs.Readings.{outline-of};
@@ -163,15 +163,24 @@ fn size_for(routers: u8) -> u16
     ((routers as u16) + 1) * (routers as u16)
 }
 
+// A router's next-hop sets for all destinations, of an accepted table. As a function of its own, so that the compiler makes no copy of the web.
+fn sets_of(table: &[u8], t: Outline, router: u8) -> [u64; 64]
+    requires { ⌜ IsAccepted (now table) × (t ≡ outline-of (now table)) ⌝ }
+    ensures { λ r. ⌜ r ≡ map (next-hops (says (now (table .entry))) router) (below 64) ⌝ }
+{
+    let web = web_of(table, t);
+    let found = all_from(web, router);
+    found.sets
+}
+
 // The interface table of an accepted table's router.
 fn write_accepted(table: &[u8], t: Outline, router: u8, out: &mut [u8])
     requires { ⌜ IsAccepted (now table) × (t ≡ outline-of (now table)) × (router < t .routers) × ((t .routers + 1) * t .routers ≤ length (now out)) ⌝ }
     ensures { λ _. ⌜ now (out .exit) ≡ interfaces (says (now (table .entry))) router ++ drop ((t .routers + 1) * t .routers) (now (out .entry)) ⌝ }
 {
-    let web = web_of(table, t);
-    let found = all_from(web, router);
-    let codes = start_codes(&found.sets, router);
-    write_rows(t.routers as usize, router, &found.sets, &codes, out);
+    let sets = sets_of(table, t, router);
+    let codes = start_codes(&sets, router);
+    write_rows(t.routers as usize, router, &sets, &codes, out);
 }
 
 // The full interface table of a router.

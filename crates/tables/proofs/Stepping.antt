@@ -109,10 +109,10 @@ module _ (kept : Kept) (place : ℕ) (left : List ℕ) where
 -- ---- the step, at a place of a table
 
 -- the contents are as long as the header says
-pub contents-length : (bytes : List ℕ) (place size : ℕ) → length-allowed (byte bytes place) size ≡ true → place + 3 + size ≤ length bytes
-    → length-allowed (byte bytes place) (length (take (place + 3 + size - (place + 3)) (drop (place + 3) bytes))) ≡ true
-contents-length bytes place size s w =
-    ap (length-allowed (byte bytes place))
+pub contents-length : (bytes : List ℕ) (place tag size : ℕ) → length-allowed tag size ≡ true → place + 3 + size ≤ length bytes
+    → length-allowed tag (length (take (place + 3 + size - (place + 3)) (drop (place + 3) bytes))) ≡ true
+contents-length bytes place tag size s w =
+    ap (length-allowed tag)
     (length-take-le (place + 3 + size - (place + 3)) (drop (place + 3) bytes) (rw (length-drop (place + 3) bytes) (omega arith)) ∙ omega arith)
     ∙ s
 
@@ -124,29 +124,33 @@ module _ (bytes : List ℕ) (place : ℕ) (kept : Kept) where
   unfolding step-of
   step-header h = header-cut kept place left (rw (length-drop place bytes) (omega arith))
 
-  module _ (h : place + 3 ≤ length bytes) where
+  -- the header is there, and its tag is known
+  module _ (h : place + 3 ≤ length bytes) (tag : ℕ) (g : tag ≡ byte bytes place) where
     long : 3 ≤ length left
     long = rw (length-drop place bytes) (omega arith)
 
-    pub step-tag : bad-tag kept (byte bytes place) ≡ true → step-of bytes place (Refused 2 place) ≡ step kept place left
-    unfolding step-of
-    step-tag t = tag-bad kept place left long (ap (bad-tag kept) (tag-there bytes place left refl) ∙ t)
+    tag-is : byte left 0 ≡ tag
+    tag-is = tag-there bytes place left refl ∙ sym g
 
-    module _ (t : bad-tag kept (byte bytes place) ≡ false) (size : ℕ) (q : size ≡ byte bytes (place + 1) * 256 + byte bytes (place + 2)) where
+    pub step-tag : bad-tag kept tag ≡ true → step-of bytes place (Refused 2 place) ≡ step kept place left
+    unfolding step-of
+    step-tag t = tag-bad kept place left long (ap (bad-tag kept) tag-is ∙ t)
+
+    module _ (t : bad-tag kept tag ≡ false) (size : ℕ) (q : size ≡ byte bytes (place + 1) * 256 + byte bytes (place + 2)) where
       in-order : bad-tag kept (byte left 0) ≡ false
-      in-order = ap (bad-tag kept) (tag-there bytes place left refl) ∙ t
+      in-order = ap (bad-tag kept) tag-is ∙ t
 
       size-is : two-bytes left 1 ≡ size
       size-is = size-there bytes place left refl ∙ sym q
 
-      allowed-is : length-allowed (byte left 0) (two-bytes left 1) ≡ length-allowed (byte bytes place) size
-      allowed-is = ap₂ length-allowed (tag-there bytes place left refl) size-is
+      allowed-is : length-allowed (byte left 0) (two-bytes left 1) ≡ length-allowed tag size
+      allowed-is = ap₂ length-allowed tag-is size-is
 
-      pub step-length : length-allowed (byte bytes place) size ≡ false → step-of bytes place (Refused 3 place) ≡ step kept place left
+      pub step-length : length-allowed tag size ≡ false → step-of bytes place (Refused 3 place) ≡ step kept place left
       unfolding step-of
       step-length s = length-bad kept place left long in-order (allowed-is ∙ s)
 
-      module _ (s : length-allowed (byte bytes place) size ≡ true) where
+      module _ (s : length-allowed tag size ≡ true) where
         pub step-contents : length bytes < place + 3 + size → step-of bytes place (Refused 1 place) ≡ step kept place left
         unfolding step-of
         step-contents w = contents-cut kept place left long in-order (allowed-is ∙ s) (rw (length-drop place bytes, size-is) (omega arith))
@@ -162,22 +166,22 @@ module _ (bytes : List ℕ) (place : ℕ) (kept : Kept) where
           contents-there : take (two-bytes left 1) (drop 3 left) ≡ contents
           contents-there = ap₂ (λ (n : ℕ) (l : List ℕ). take n l) (size-is ∙ sym just-size) (drop-drop 3 place bytes)
 
-          module _ (number : ℕ) (e : number ≡ contents-number kept (byte bytes place) contents) where
+          module _ (number : ℕ) (e : number ≡ contents-number kept tag contents) where
             cases : (number ≢ 0 → bad number place ≡ step kept place left)
                 × (number ≡ 0 → good (record-in place left) (place + 3 + two-bytes left 1) ≡ step kept place left)
             cases =
                 decided kept place left long in-order (allowed-is ∙ s) (rw (length-drop place bytes, size-is) (omega arith)) number
-                (e ∙ sym (ap₂ (contents-number kept) (tag-there bytes place left refl) contents-there))
+                (e ∙ sym (ap₂ (contents-number kept) tag-is contents-there))
 
             pub step-number : number ≢ 0 → step-of bytes place (Refused number place) ≡ step kept place left
             unfolding step-of
             step-number n = cases .0 n
 
-            pub step-record : number ≡ 0 → step-of bytes place (Record (byte bytes place) (place + 3 + size)) ≡ step kept place left
+            pub step-record : number ≡ 0 → step-of bytes place (Record tag (place + 3 + size)) ≡ step kept place left
             unfolding step-of
             step-record n =
                 sym (ap₂ (λ (r : Rules.Record) (end : ℕ). good r end)
-                (ap₂ (λ (t : ℕ) (c : List ℕ). record { place = place; tag = t; contents = c }) (tag-there bytes place left refl) contents-there) (ap (λ n. place + 3 + n) size-is))
+                (ap₂ (λ (t : ℕ) (c : List ℕ). record { place = place; tag = t; contents = c }) tag-is contents-there) (ap (λ n. place + 3 + n) size-is))
                 ∙ cases .1 n
 
 -- ---- what is kept behind a record

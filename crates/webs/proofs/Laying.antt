@@ -2,7 +2,7 @@
 -- Assumes nothing.
 use mathlib.Core.Path.{_≡_, refl, sym, _∙_, ap}
 use mathlib.Core.Logic.{_≢_, inl, inr}
-use mathlib.Core.Bool.{Bool, true, false, _&&_, or-true, false≢true}
+use mathlib.Core.Bool.{Bool, true, false, not, _&&_, or-true}
 use mathlib.Core.List.{List, _∷_, map}
 use Prim.Native.Nat.{ℕ, suc, _+_, _*_, _/_, _%_, _^_, _<_}
 use native.Mathlib.Numerals.{add-one}
@@ -12,7 +12,7 @@ use lib.Bits.{bitOr}
 use lib.Dec.{eqb}
 use lib.ListN.{length, getD, set, replicate, length-set, length-replicate, getD-replicate}
 use lib.Seq.{ext-getD, getD-set-same, getD-set-other}
-use borrow.Author.Tests.{lt-ltb, eq-eqb}
+use borrow.Author.Tests.{lt-ltb, eq-eqb, not-false}
 use Rattle.rules.specs.Words.{_<?_, pick, below}
 use Rattle.rules.specs.Layout.{Link, LinkFits}
 use Rattle.rules.specs.Table.{link-fits}
@@ -31,7 +31,7 @@ use Rattle.webs.specs.declared.Web.{Web}
 use Rattle.sets.proofs.Members.{one-bit, set-same, with-member}
 
 -- a link does not pass the test where it does not fit
-unfit : (l : Link) → (LinkFits 64 l → ⊥) → link-fits 64 l ≡ false
+pub unfit : (l : Link) → (LinkFits 64 l → ⊥) → link-fits 64 l ≡ false
 unfit l h = go (link-fits 64 l) refl
   where
     go : (t : Bool) → link-fits 64 l ≡ t → t ≡ false
@@ -137,32 +137,41 @@ module _ (l : Link) (ls : List Link) where
 -- ---- as the code lays one link
 
 -- one that does not fit changes nothing
-pub left-out : (l : Link) (near weights : List ℕ) → (LinkFits 64 l → ⊥) → (near ≡ near-with l near) × (weights ≡ weights-with l weights)
-unfolding near-with weights-with
-left-out l near weights h = (sym (pick-f _ _ _ (unfit l h)), sym (pick-f _ _ _ (unfit l h)))
+module _ (l : Link) (e : link-fits 64 l ≡ false) where
+  pub near-kept : (near : List ℕ) → near ≡ near-with l near
+  unfolding near-with
+  near-kept near = sym (pick-f _ _ _ e)
+
+  pub weights-kept : (weights : List ℕ) → weights ≡ weights-with l weights
+  unfolding weights-with
+  weights-kept weights = sym (pick-f _ _ _ e)
+
+-- one that passes the code's test fits
+pub fit : (l : Link) (t : Bool) → t ≡ link-fits 64 l → not t ≡ false → LinkFits 64 l
+fit l t e p = fits-link 64 l (sym e ∙ not-false t p)
 
 -- one that fits is laid both ways
-pub put-in : (a b weight : ℕ) (near weights : List ℕ) → LinkFits 64 (link a b weight)
-    → let one = set near a (bitOr (getD near a 0) (1 * 2 ^ b % 2 ^ 64)) in
-    (set one b (bitOr (getD one b 0) (1 * 2 ^ a % 2 ^ 64)) ≡ near-with (link a b weight) near)
-    × (set (set weights (64 * a + b) weight) (64 * b + a) weight ≡ weights-with (link a b weight) weights)
-unfolding near-with weights-with
-put-in a b weight near weights f =
-    let e = link-passes 64 (link a b weight) f in
-    (rw (one-bit a (omega (arith, f)), one-bit b (omega (arith, f))) (sym (pick-t _ _ _ e)), sym (pick-t _ _ _ e))
+module _ (a b weight : ℕ) (f : LinkFits 64 (link a b weight)) where
+  pub near-put : (near : List ℕ) → let one = set near a (bitOr (getD near a 0) (1 * 2 ^ b % 2 ^ 64)) in
+      set one b (bitOr (getD one b 0) (1 * 2 ^ a % 2 ^ 64)) ≡ near-with (link a b weight) near
+  unfolding near-with
+  near-put near = rw (one-bit a (omega (arith, f)), one-bit b (omega (arith, f))) (sym (pick-t _ _ _ (link-passes 64 (link a b weight) f)))
 
--- a link that is told is laid, and where none is told nothing changes
-module _ (near weights : List ℕ) (next : NextLink) where
-  pub told-laid : (a b weight place : ℕ) (near′ weights′ : List ℕ) → next ≡ One a b weight place
-      → near′ ≡ near-with (link a b weight) near → weights′ ≡ weights-with (link a b weight) weights
-      → (near′ ≡ near-with (next-numbers next .link) near) × (weights′ ≡ weights-with (next-numbers next .link) weights)
-  unfolding next-numbers
-  told-laid a b weight place near′ weights′ e p q = rw e (p, q)
+  pub weights-put : (weights : List ℕ) → set (set weights (64 * a + b) weight) (64 * b + a) weight ≡ weights-with (link a b weight) weights
+  unfolding weights-with
+  weights-put weights = sym (pick-t _ _ _ (link-passes 64 (link a b weight) f))
 
-  pub none-told : next ≡ NoMore
-      → (near ≡ near-with (next-numbers next .link) near) × (weights ≡ weights-with (next-numbers next .link) weights)
+module _ (next : NextLink) where
+  -- a link that is told is the one that is laid
+  pub as-told : (f : Link → List ℕ) (l : List ℕ) (a b weight place : ℕ) → next ≡ One a b weight place
+      → l ≡ f (link a b weight) → l ≡ f (next-numbers next .link)
   unfolding next-numbers
-  none-told e = rw e (left-out (link 0 0 0) near weights (λ f. omega (arith, f)))
+  as-told f l a b weight place e p = rw e p
+
+  -- where none is told, none fits
+  pub none-told : next ≡ NoMore → link-fits 64 (next-numbers next .link) ≡ false
+  unfolding next-numbers
+  none-told e = rw e (unfit (link 0 0 0) (λ f. omega (arith, f)))
 
 -- ---- the links of a table, laid from the first on
 
@@ -214,11 +223,10 @@ module _ (bytes : List ℕ) (start : ℕ) where
             numbers = q ∙ ap (weights-with l) (h .numbers) ∙ weights-more l ls f ∙ ap (λ ls. web-by (weight-in ls) .weights) so;
           }
       go false e =
-          let (x, y) = left-out l near weights (λ f. false≢true (sym e ∙ link-passes 64 l f)) in
           let so : ls ≡ laid bytes start (suc n) = sym (laid-so ∙ pick-f _ _ _ e) in
           record {
-            sets = p ∙ sym x ∙ h .sets ∙ ap (λ ls. web-by (weight-in ls) .near) so;
-            numbers = q ∙ sym y ∙ h .numbers ∙ ap (λ ls. web-by (weight-in ls) .weights) so;
+            sets = p ∙ sym (near-kept l e near) ∙ h .sets ∙ ap (λ ls. web-by (weight-in ls) .near) so;
+            numbers = q ∙ sym (weights-kept l e weights) ∙ h .numbers ∙ ap (λ ls. web-by (weight-in ls) .weights) so;
           }
 
   -- at the end the arrays are the web

@@ -1,6 +1,7 @@
 // A table's links laid out as a web: which routers each router is linked to, and the weights.
 ghost use mathlib.Core.Path.{_≡_};
 ghost use lib.ListN.{replicate};
+ghost use Rattle.rules.specs.Table.{link-fits};
 ghost use Rattle.links.specs.Links.{next-numbers};
 ghost use Rattle.webs.specs.Webs.{web-at, link, near-with, weights-with};
 use links::NextLink;
@@ -20,59 +21,80 @@ fn no_weights() -> [u16; 4096]
     [0; 4096]
 }
 
-// One more link laid, both ways; one that is not between two of 64 routers, a < b, or has no weight, changes nothing.
-fn lay(near: &mut [u64; 64], weights: &mut [u16; 4096], a: u8, b: u8, weight: u16)
-    ensures { λ r. ⌜
-        (now (near .exit) ≡ near-with (link a b weight) (now (near .entry)))
-        × (now (weights .exit) ≡ weights-with (link a b weight) (now (weights .entry)))
-        ⌝ }
+// A link that can be laid: between two of 64 routers, a < b, and with a weight.
+fn is_fit(a: u8, b: u8, weight: u16) -> bool
+    ensures { λ r. ⌜ r ≡ link-fits 64 (link a b weight) ⌝ }
 {
     if b <= a {
-        return;
+        return false;
     }
     if 64 <= b {
-        return;
+        return false;
     }
     if weight == 0 {
+        return false;
+    }
+    true
+}
+
+// The sets with the link that is told, both ways; where none is told, or one that cannot be laid, nothing changes.
+fn lay_ends(near: &mut [u64; 64], next: NextLink)
+    ensures { λ r. ⌜ now (near .exit) ≡ near-with (next-numbers next .link) (now (near .entry)) ⌝ }
+{
+    let NextLink::One {
+        a,
+        b,
+        weight,
+        behind,
+    } = next
+    else {
+        return;
+    };
+    if !is_fit(a, b, weight) {
         return;
     }
     let i = a as usize;
     let k = b as usize;
     near[i] = near[i] | (1u64 << k);
     near[k] = near[k] | (1u64 << i);
+}
+
+// The weights with it, in the same way.
+fn lay_weight(weights: &mut [u16; 4096], next: NextLink)
+    ensures { λ r. ⌜ now (weights .exit) ≡ weights-with (next-numbers next .link) (now (weights .entry)) ⌝ }
+{
+    let NextLink::One {
+        a,
+        b,
+        weight,
+        behind,
+    } = next
+    else {
+        return;
+    };
+    if !is_fit(a, b, weight) {
+        return;
+    }
+    let i = a as usize;
+    let k = b as usize;
     weights[64 * i + k] = weight;
     weights[64 * k + i] = weight;
 }
 
-// The link that is told, laid; where none is told nothing changes.
-fn lay_told(near: &mut [u64; 64], weights: &mut [u16; 4096], next: NextLink)
-    ensures { λ r. ⌜
-        (now (near .exit) ≡ near-with (next-numbers next .link) (now (near .entry)))
-        × (now (weights .exit) ≡ weights-with (next-numbers next .link) (now (weights .entry)))
-        ⌝ }
-{
-    match next {
-        NextLink::One {
-            a,
-            b,
-            weight,
-            behind,
-        } => lay(near, weights, a, b, weight),
-        NextLink::NoMore => {}
-    }
-}
-
-// The web of the links that an outline tells of.
+// The web of the links that an outline tells of. It is made as one value and its fields are lent in turn: put together at the end they would be copied.
 pub fn web_of(table: &[u8], t: Outline) -> Web
     ensures { λ r. ⌜ r ≡ web-at (now (table .entry)) t ⌝ }
 {
-    let mut near = no_sets();
-    let mut weights = no_weights();
+    let mut web = Web {
+        near: no_sets(),
+        weights: no_weights(),
+    };
     let mut i = 0;
     while i < t.links {
         let next = link_by_number(table, t.start, i);
-        lay_told(&mut near, &mut weights, next);
+        lay_ends(&mut web.near, next);
+        lay_weight(&mut web.weights, next);
         i += 1;
     }
-    Web { near, weights }
+    web
 }

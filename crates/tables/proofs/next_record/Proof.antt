@@ -1,40 +1,10 @@
--- `tables::next_record` meets its contract. One law for each way out, in the order of the tests.
+-- `tables::next_record` meets its contract.
 -- Assumes nothing.
-use mathlib.Core.Path.{_≡_, sym, _∙_}
-use mathlib.Core.Bool.{true, false}
 use native.Mathlib.Omega.{arith}
-use borrow.Author.Tests.{not-true, not-false}
 use borrow.Author.Needs.{needs}
-use Rattle.rules.specs.Table.{byte, bad-tag, length-allowed}
-use Rattle.tables.specs.Steps.{kept-of}
-use Rattle.tables.proofs.Stepping.{step-header, step-tag, step-length, step-contents, contents-length, step-number, step-record}
+use Rattle.tables.proofs.Stepping.{step-header}
 use Rattle.tables.proofs.next_record.Statement.{statement}
 use Rattle.tables.proofs.next_record.Tie as tie
-use Rattle.tables.proofs.next_record.Reads as reads
-use Rattle.tables.proofs.next_record.Lts as lts
-use Rattle.tables.proofs.contents_number.Reads as contents-number-reads
-use Rattle.tables.proofs.joined.Reads as joined-reads
-use Rattle.tables.proofs.length_fits.Reads as length-fits-reads
-use Rattle.tables.proofs.tag_is_bad.Reads as tag-is-bad-reads
-
-abbrev Sized : Type 0
-Sized =
-    lts.Else4 (
-      tag-is-bad-reads.Asked,
-      tag-is-bad-reads.Learnt,
-      joined-reads.Asked,
-      joined-reads.Learnt,
-      length-fits-reads.Asked,
-      length-fits-reads.Learnt,
-      contents-number-reads.Asked,
-      contents-number-reads.Learnt,
-    ) reads.Pre reads.Post
-
-tag-good : (m : Sized) → let a = m .before .before .before .before .before .before .before .before .before .before .before .args in bad-tag (kept-of (a .kept)) (byte (a .table .now) (a .place)) ≡ false
-tag-good m = sym (m .before .before .before .before .before .before .tag-is-bad .ensures) ∙ m .before .before .before .before .before .if3 .left
-
-length-good : (m : Sized) → let a = m .before .before .before .before .before .before .before .before .before .before .before .args in length-allowed (byte (a .table .now) (a .place)) (m .before .before .joined .result) ≡ true
-length-good m = sym (m .before .length-fits .ensures) ∙ not-false _ (m .if4 .left)
 
 returns : tie.Need-returns
 returns c = step-header _ _ _ (omega arith)
@@ -45,79 +15,17 @@ returns-2 c = step-header _ _ _ (omega arith)
 shared-slice-read-tag : tie.Need-shared-slice-read-tag
 shared-slice-read-tag c = search needs
 
-tag-is-bad-requires : tie.Need-tag-is-bad-requires
-tag-is-bad-requires c κs = search needs
+record-of-requires : tie.Need-record-of-requires
+record-of-requires c κs = search needs
 
 returns-3 : tie.Need-returns-3
-returns-3 c = step-tag _ _ _ (omega arith) (sym (c .before .tag-is-bad .ensures) ∙ c .if3 .taken)
+returns-3 c = search needs
 
-add-joined : tie.Need-add-joined
-add-joined c = search needs
-
-shared-slice-read-joined : tie.Need-shared-slice-read-joined
-shared-slice-read-joined c = search needs
-
-add-joined-2 : tie.Need-add-joined-2
-add-joined-2 c = search needs
-
-shared-slice-read-joined-2 : tie.Need-shared-slice-read-joined-2
-shared-slice-read-joined-2 c = search needs
-
-joined-requires : tie.Need-joined-requires
-joined-requires c κs = search needs
-
-length-fits-requires : tie.Need-length-fits-requires
-length-fits-requires c κs = search needs
+record-of-requires-2 : tie.Need-record-of-requires-2
+record-of-requires-2 c κs = search needs
 
 returns-4 : tie.Need-returns-4
-returns-4 c =
-    let m = c .before .before .before .before .before in
-    step-length _ _ _ (omega arith) (sym (m .before .tag-is-bad .ensures) ∙ m .if3 .left) _ (c .before .before .joined .ensures)
-    (sym (c .before .length-fits .ensures) ∙ not-true _ (c .if4 .taken))
-
-add-end : tie.Need-add-end
-add-end c = search needs
-
-cast-end : tie.Need-cast-end
-cast-end c = search needs
-
-add-end-2 : tie.Need-add-end-2
-add-end-2 c = search needs
-
-returns-5 : tie.Need-returns-5
-returns-5 c =
-    let m = c .before in
-    step-contents _ _ _ (omega arith) (tag-good m) _ (m .before .before .joined .ensures) (length-good m) (omega arith)
-
-add-contents-number : tie.Need-add-contents-number
-add-contents-number c = search needs
-
-sub-contents-number : tie.Need-sub-contents-number
-sub-contents-number c = search needs
-
-part-contents-number-start : tie.Need-part-contents-number-start
-part-contents-number-start c = search needs
-
-part-contents-number-end : tie.Need-part-contents-number-end
-part-contents-number-end c = search needs
-
-contents-number-requires : tie.Need-contents-number-requires
-contents-number-requires c κs =
-    let m = c .before .before in
-    let a = m .before .before .before .before .before .before .before .before .before .before .before .args in
-    contents-length (a .table .now) (a .place) _ (length-good m) (c .before .if5 .left)
-
-returns-6 : tie.Need-returns-6
-returns-6 c =
-    let m = c .before .before .before .before in
-    step-number _ _ _ (omega arith) (tag-good m) _ (m .before .before .joined .ensures) (length-good m) (c .before .before .before .if5 .left) _ (c .before .contents-number .ensures)
-    (c .if6 .taken)
-
-returns-7 : tie.Need-returns-7
-returns-7 c =
-    let m = c .before .before .before .before in
-    step-record _ _ _ (omega arith) (tag-good m) _ (m .before .before .joined .ensures) (length-good m) (c .before .before .before .if5 .left) _ (c .before .contents-number .ensures)
-    (c .if6 .left)
+returns-4 c = search needs
 
 pub next-record-spec : {M : Type 1} → statement M
 next-record-spec =
@@ -126,23 +34,7 @@ next-record-spec =
     returns
     returns-2
     shared-slice-read-tag
-    tag-is-bad-requires
+    record-of-requires
     returns-3
-    add-joined
-    shared-slice-read-joined
-    add-joined-2
-    shared-slice-read-joined-2
-    joined-requires
-    length-fits-requires
-    returns-4
-    add-end
-    cast-end
-    add-end-2
-    returns-5
-    add-contents-number
-    sub-contents-number
-    part-contents-number-start
-    part-contents-number-end
-    contents-number-requires
-    returns-6
-    returns-7)
+    record-of-requires-2
+    returns-4)

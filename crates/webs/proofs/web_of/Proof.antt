@@ -1,4 +1,4 @@
--- `webs::web_of` meets its contract: at each turn the arrays are the web of the links before.
+-- `webs::web_of` meets its contract: at each turn the fields are the web of the links before.
 -- Assumes nothing.
 use Prim.Native.Nat.{_-_, _≤_}
 use native.Mathlib.Omega.{arith}
@@ -9,10 +9,10 @@ use Rattle.webs.proofs.web_of.Statement.{statement}
 use Rattle.webs.proofs.web_of.Tie as tie
 
 abbrev Inv-loop : tie.InvT-loop
-Inv-loop table t near₀ weights₀ i₀ near weights i = (i ≤ t .links) × Laid table (t .start) i near weights
+Inv-loop table t web₀ i₀ web i = (i ≤ t .links) × Laid table (t .start) i (web .near) (web .weights)
 
 abbrev μ-loop : tie.MeasureT-loop
-μ-loop table t near₀ weights₀ i₀ near weights i = t .links - i
+μ-loop table t web₀ i₀ web i = t .links - i
 
 no-sets-requires : tie.Need-no-sets-requires Inv-loop μ-loop
 no-sets-requires c κs = search needs
@@ -26,8 +26,11 @@ loop-holds c = (omega arith, none-laid _ _ _ _ (c .before .no-sets .ensures) (c 
 link-by-number-requires : tie.Need-link-by-number-requires Inv-loop μ-loop
 link-by-number-requires c κs = search needs
 
-lay-told-requires : tie.Need-lay-told-requires Inv-loop μ-loop
-lay-told-requires c κs = search needs
+lay-ends-requires : tie.Need-lay-ends-requires Inv-loop μ-loop
+lay-ends-requires c κs = search needs
+
+lay-weight-requires : tie.Need-lay-weight-requires Inv-loop μ-loop
+lay-weight-requires c κs = search needs
 
 add-i : tie.Need-add-i Inv-loop μ-loop
 add-i c = search needs
@@ -37,9 +40,9 @@ loop-less c = omega arith
 
 loop-again : tie.Need-loop-again Inv-loop μ-loop
 loop-again c =
-    let m = c .before .before .before in (
+    let m = c .before .before .before .before in (
       omega arith,
-      more-laid _ _ _ _ _ _ _ _ (m .before .before .before .loop .inv .1) (m .link-by-number .ensures) (c .lay-told .ensures .0) (c .lay-told .ensures .1),
+      more-laid _ _ _ _ _ _ _ _ (m .before .before .before .loop .inv .1) (m .link-by-number .ensures) (c .before .before .lay-ends .ensures) (c .lay-weight .ensures),
     )
 
 returns : tie.Need-returns Inv-loop μ-loop
@@ -56,7 +59,8 @@ web-of-spec =
     no-weights-requires
     loop-holds
     link-by-number-requires
-    lay-told-requires
+    lay-ends-requires
+    lay-weight-requires
     add-i
     loop-less
     loop-again
