@@ -3,29 +3,27 @@
 use mathlib.Core.Path.{_≡_, refl, sym, _∙_, ap}
 use mathlib.Core.Logic.{_≢_}
 use mathlib.Core.Bool.{Bool, true, false, _||_, not}
-use mathlib.Core.List.{List, [], _∷_, _++_}
+use mathlib.Core.List.{List, [], _∷_}
 use Prim.Native.Nat.{ℕ, _-_, _≤_, _<_}
 use native.Mathlib.Omega.{arith}
 use lib.Dec.{eqb, leb, ltb}
 use native.Mathlib.Nat.{zero-add}
-use lib.ListN.{length, take, drop}
-use lib.Seq.{sets, sets-eq}
+use lib.ListN.{length, take}
 use borrow.Author.Tests.{lt-ltb, le-ltb, le-leb, lt-leb, eq-eqb, ne-eqb}
 use Rattle.rules.specs.Words.{_when_, first_otherwise_, every, pick}
 use Rattle.rules.specs.Table.{says}
 use Rattle.rules.specs.Pairs.{too-different}
-use Rattle.rules.specs.Paths.{Outcome, delivered, discarded, unrouted, lost, outcome-code, Trip, listed}
+use Rattle.rules.specs.Paths.{Outcome, delivered, discarded, unrouted, lost, outcome-code, Trip}
 use Rattle.rules.specs.Questions.{Answer, Refusal, Ending, answered, refused-with, refusal, answer, pair-answer, bad-router, few-views, bad-views, ending, trip-of, path-answer, trace-after}
 use Rattle.rules.specs.Demand1.{AcceptedTogether, PathAsked}
 use Rattle.rules.proofs.Acceptance.{obeys}
-use Rattle.rules.proofs.Answered.{demand3-for-accepted}
 use Rattle.rules.proofs.Basics.{pick-t, pick-f}
 use Rattle.rules.proofs.Cases.{answered-exactly, quiet-pair}
 use Rattle.rules.proofs.Lines.{table-good, line-passes, front-refuses}
 use Rattle.rules.proofs.Refusals.{writes, stays}
 use Rattle.paths.specs.declared.Ending.{Ending as EndingHere}
 use Rattle.paths.specs.declared.Tracing.the-variants.{Ended, Refused}
-use Rattle.paths.specs.Walks.{outcome-case, ending-after}
+use Rattle.paths.specs.Walks.{outcome-case, ending-after, written}
 use Rattle.paths.specs.Tracings.{outcome-number, tracing-numbers, Traces, number-for}
 
 -- ---- number 11
@@ -66,10 +64,6 @@ module _ (n s d : ℕ) (views : List ℕ) (room : ℕ) where
         all-good h = rw (lt-leb n s a, lt-leb n d b, ← e, g, le-ltb room n h)
 
 -- ---- the answer
-
--- what is stored from the start on stands in front
-stored : (vs l : List ℕ) → length vs ≤ length l → sets l 0 vs ≡ vs ++ drop (length vs) l
-stored vs l h = sets-eq vs l 0 (omega arith) ∙ rw (zero-add (length vs))
 
 -- an outcome's case has its code
 pub case-code : (o : Outcome) → outcome-number (outcome-case o) ≡ outcome-code o
@@ -155,16 +149,11 @@ module _ (old new : List ℕ) (s d : ℕ) (views trace : List ℕ) where
           let f = obeys new (𝓐 .new-accepted) .few-routers in
           (omega (arith, f, asked .from-router), omega (arith, f, asked .to-router))
 
-      pub ended : (e : EndingHere) (trace′ : List ℕ) → (e ≡ ending-after 0 trip) × (trace′ ≡ sets trace 0 (trip .trace))
+      pub ended : (e : EndingHere) (trace′ : List ℕ) → (e ≡ ending-after 0 trip) × (trace′ ≡ written trip trace)
           → Traces old new s d views trace (Ended e) trace′
-      unfolding tracing-numbers trace-after trip-of
+      unfolding tracing-numbers trace-after
       ended e trace′ (p, t) = (
         ap answered (told trip e p) ∙ sym answers,
         tt,
-        t ∙ stored (trip .trace) trace fits ∙ sym (writes (path-answer old new s d views trace) (trip .trace) trace (ap (λ a. a .refusal .number) answers)),
+        t ∙ sym (writes (path-answer old new s d views trace) (trip .trace) trace (ap (λ a. a .refusal .number) answers)),
       )
-        where
-          fits : length (trip .trace) ≤ length trace
-          fits =
-              let l = demand3-for-accepted old new s d (listed views) 𝓐 (asked .from-router) (asked .to-router) .general .loopless in
-              omega (arith, l .counted, l .few, asked .room)

@@ -1,25 +1,27 @@
 -- From the arrays to the tables: over what is found for two tables that go together a packet goes the very way that it goes over the tables, and it
--- ends by the rules before the hops run out.
+-- ends by the rules before the hops run out. What the walk tells and writes is then handed over.
 -- Assumes nothing.
 use mathlib.Core.Path.{_≡_, refl, sym, _∙_, ap, subst}
 use mathlib.Core.Logic.{inr}
-use mathlib.Core.List.{List, map}
-use Prim.Native.Nat.{ℕ, _-_, _^_, _<_}
+use mathlib.Core.List.{List, _++_, map}
+use Prim.Native.Nat.{ℕ, _+_, _-_, _^_, _≤_, _<_}
 use native.Mathlib.Decide.{decLt}
 use native.Mathlib.Omega.{arith}
-use lib.ListN.{length, getD}
-use lib.Seq.{sets}
-use Rattle.rules.specs.Words.{below}
+use lib.Dec.{eqb}
+use lib.ListN.{length, getD, take, drop, replicate, List·getD-append}
+use lib.Seq.{getD-take, length-take-le, length-sets, sets, sets-eq, take-append-seam}
+use Rattle.rules.specs.Words.{_<?_, pick, below}
 use Rattle.rules.specs.Layout.{Obeys}
 use Rattle.rules.specs.Table.{says}
+use Rattle.rules.specs.Links.{weight}
 use Rattle.rules.specs.Costs.{cost}
-use Rattle.rules.specs.NextHops.{next-hops}
+use Rattle.rules.specs.NextHops.{has, next-hops}
 use Rattle.rules.specs.Entries.{starts-here, entry-by, rules-of, entry}
-use Rattle.rules.specs.Paths.{View, old-view, new-view, by, Choice, listed, Trip, Site, entry-at, journey, site-of}
+use Rattle.rules.specs.Paths.{View, old-view, new-view, by, Choice, listed, Trip, Site, entry-at, site-of}
 use Rattle.rules.specs.Questions.{trip-of}
 use Rattle.rules.specs.Demand1.{IsAccepted, PathAsked}
-use Rattle.rules.specs.Demand3.{Follows, delivers, discards, has-none, loses, crosses, decisions, Loopless}
-use Rattle.rules.proofs.Basics.{length-values, value-at, value-behind}
+use Rattle.rules.specs.Demand3.{Follows, delivers, discards, has-none, loses, crosses, Loopless, Demand3}
+use Rattle.rules.proofs.Basics.{All-map, All-at, length-values, value-at, value-behind}
 use Rattle.rules.proofs.Acceptance.{obeys}
 use Rattle.rules.proofs.Weights.{net}
 use Rattle.rules.proofs.LeastCost.{out-of-reach}
@@ -37,7 +39,8 @@ use Rattle.search.specs.Steps.{AreSets}
 use Rattle.search.proofs.OfTable.{found-hops}
 use Rattle.entries.proofs.Entries.{by-set}
 use Rattle.paths.specs.declared.Ending.{Ending}
-use Rattle.paths.specs.Walks.{sets-to, rules-over, site-over, ending-after, arriving, Arriving}
+use Rattle.paths.specs.declared.Guide.{Guide}
+use Rattle.paths.specs.Walks.{sets-to, guide-to, rules-over, site-over, ending-after, written, ending-number, EndingOf, arriving, Arrives, Arriving}
 
 -- ---- the arrays
 
@@ -49,21 +52,64 @@ are-sets f h sets e = record { long = ap length e ∙ length-values f 64; fit = 
     fit k (yes l) = rw (value-at f 64 k 0 l) (h k)
     fit k (no l) = rw (value-behind f 64 k 0 (omega arith)) (omega arith)
 
--- so are the routers that each is linked to, in the web of any bytes
-near-are : (table : List ℕ) (t : Outline) (web : Web) → web ≡ web-at table t → AreSets (web .near)
-unfolding web-at web-by
-near-are table t web e = are-sets _ (λ i. set-below _ 64) (web .near) (ap (λ (v : Web). v .near) e)
+-- a walk's trace keeps its 64 places
+pub places-kept : (old new near views : List ℕ) (d i j left : ℕ) (blank : List ℕ) (r : ℕ) (visited : List ℕ) → blank ≡ replicate 64 0
+    → Arrives old new near views d i j 0 left blank r visited → 64 ≡ length visited
+places-kept old new near views d i j left blank r visited z (p, v) =
+    sym (ap length v ∙ length-sets blank 0 (arriving old new near views d i j 0 left .trace) ∙ ap length z)
 
-module _ (w : ℕ → ℕ → ℕ) (d : ℕ) (sets : List ℕ) where
-  -- the sets by the costs to a destination are the sets to it
-  pub found-to : (costs : List ℕ) → costs ≡ costs-from w d → sets ≡ map (hops-over w (cost-at costs)) (below 64) → sets ≡ sets-to w d
-  unfolding sets-to
-  found-to costs e f = f ∙ ap (λ l. map (hops-over w (cost-at l)) (below 64)) e
+module _ (table : List ℕ) (t : Outline) (d : ℕ) where
+  -- what is found over a table's web is its guide
+  pub found-guide : (web : Web) → web ≡ web-at table t → (costs : List ℕ) → costs ≡ costs-from (web-weight web) d
+      → (sets : List ℕ) → sets ≡ map (hops-over (web-weight web) (cost-at costs)) (below 64)
+      → record { sets = sets; near = web .near } ≡ guide-to table t d
+  unfolding guide-to sets-to
+  found-guide web e costs f sets g = λ z. record { sets = (g ∙ all) z; near = e z .near }
+    where
+      all : map (hops-over (web-weight web) (cost-at costs)) (below 64) ≡ sets-to (web-weight (web-at table t)) d
+      all = ap (λ l. map (hops-over (web-weight web) (cost-at l)) (below 64)) f ∙ ap (λ v. sets-to (web-weight v) d) e
 
-  -- and an array of sets
-  sets-are : sets ≡ sets-to w d → AreSets sets
-  unfolding sets-to hops-over
-  sets-are e = are-sets (hops-over w (cost-at (costs-from w d))) (λ i. set-below _ 64) sets e
+  module _ (guide : Guide) (g : guide ≡ guide-to table t d) where
+    -- both of its arrays are sets, whatever bytes the table has
+    sets-are : AreSets (guide .sets)
+    unfolding guide-to sets-to hops-over
+    sets-are = are-sets _ (λ i. set-below _ 64) (guide .sets) (ap (λ (v : Guide). v .sets) g)
+
+    near-are : AreSets (guide .near)
+    unfolding guide-to web-at web-by
+    near-are = are-sets _ (λ i. set-below _ 64) (guide .near) (ap (λ (v : Guide). v .near) g)
+
+    module _ (a : IsAccepted table) (q : t ≡ outline-of table) where
+      o : Obeys (says table)
+      o = obeys table a
+
+      -- the links of the table join
+      own-links : (i k : ℕ) → has (getD (guide .near) i 0) k ≡ (0 <? weight (says table) i k)
+      unfolding guide-to
+      own-links i k = ap (λ (v : Guide). has (getD (v .near) i 0) k) g ∙ accepted-near table a t q (web-at table t) refl i k
+
+      module _ (b : d < 64) where
+        -- each router's set is its own; behind the last there is no route
+        own-set : (i : ℕ) → getD (guide .sets) i 0 ≡ next-hops (says table) i d
+        unfolding guide-to sets-to cost
+        own-set i = ap (λ (v : Guide). getD (v .sets) i 0) g ∙ go (decLt i 64)
+          where
+            costs : List ℕ
+            costs = costs-from (web-weight (web-at table t)) d
+
+            hops : ℕ → ℕ
+            hops = hops-over (web-weight (web-at table t)) (cost-at costs)
+
+            go : Dec (i < 64) → getD (map hops (below 64)) i 0 ≡ next-hops (says table) i d
+            go (yes h) = value-at hops 64 i 0 h ∙ found-hops table a t q (web-at table t) refl costs d b refl i
+            go (no h) =
+                value-behind hops 64 i 0 (omega arith)
+                ∙ sym (empty-sets (says table) o i d .1 (inr (out-of-reach (net (says table) o) i d (omega (arith, o .few-routers)) (omega arith))))
+
+        -- so its entries are the table's
+        own-entry : (i j : ℕ) → entry-by (rules-over (guide .sets)) i j d ≡ entry-by (rules-of (says table) d) i j d
+        unfolding entry-by rules-over entry
+        own-entry i j = by-set (says table) o i j d (getD (guide .sets) i 0) (own-set i)
 
 -- ---- what follows in one site follows in another where every router enters alike and the same links carry
 
@@ -77,102 +123,126 @@ module _ (site site′ : Site) (choice : Choice)
   follows-too (loses e c) = loses (enters _ _ _ ∙ e) (carries _ _ ∙ c)
   follows-too (crosses e c r) = crosses (enters _ _ _ ∙ e) (carries _ _ ∙ c) (follows-too r)
 
--- ---- the sets of one table
-
-module _ (table : List ℕ) (a : IsAccepted table) (t : Outline) (q : t ≡ outline-of table) (web : Web) (e : web ≡ web-at table t)
-    (d : ℕ) (b : d < 64) (sets : List ℕ) (f : sets ≡ sets-to (web-weight web) d) where
-  o : Obeys (says table)
-  o = obeys table a
-
-  -- each router's set is its own; behind the last there is no route
-  own-set : (i : ℕ) → getD sets i 0 ≡ next-hops (says table) i d
-  unfolding sets-to cost
-  own-set i = ap (λ l. getD l i 0) f ∙ go (decLt i 64)
-    where
-      costs : List ℕ
-      costs = costs-from (web-weight web) d
-
-      hops : ℕ → ℕ
-      hops = hops-over (web-weight web) (cost-at costs)
-
-      go : Dec (i < 64) → getD (map hops (below 64)) i 0 ≡ next-hops (says table) i d
-      go (yes h) = value-at hops 64 i 0 h ∙ found-hops table a t q web e costs d b refl i
-      go (no h) =
-          value-behind hops 64 i 0 (omega arith)
-          ∙ sym (empty-sets (says table) o i d .1 (inr (out-of-reach (net (says table) o) i d (omega (arith, o .few-routers)) (omega arith))))
-
-  -- so its entries are the table's
-  own-entry : (i j : ℕ) → entry-by (rules-over sets) i j d ≡ entry-by (rules-of (says table) d) i j d
-  unfolding entry-by rules-over entry
-  own-entry i j = by-set (says table) o i j d (getD sets i 0) (own-set i)
-
--- ---- the packet, over the arrays of both tables
+-- ---- the packet, over the guides of both tables and the first N − 1 views
 
 module _ (old : List ℕ) (o : Outline) (new : List ℕ) (n : Outline) (s d : ℕ) (views trace : List ℕ)
-    (asked : PathAsked old new s d views trace × (o ≡ outline-of old) × (n ≡ outline-of new))
-    (old-web : Web) (e : old-web ≡ web-at old o) (old-sets : List ℕ) (f : old-sets ≡ sets-to (web-weight old-web) d)
-    (new-web : Web) (g : new-web ≡ web-at new n) (new-sets : List ℕ) (h : new-sets ≡ sets-to (web-weight new-web) d) where
+    (asked : PathAsked old new s d views trace × (o ≡ outline-of old) × (n ≡ outline-of new)) where
   same-n : n .routers ≡ says new .routers
   same-n = own-routers new n (asked .2)
 
   new-obeys : Obeys (says new)
   new-obeys = obeys new (asked .0 .together .new-accepted)
 
-  abbrev site : Site
-  site = site-over d old-sets new-sets (new-web .near)
+  -- so many views are there, and 64 places hold them
+  pub views-there : (none : List ℕ) → none ≡ replicate 64 0 → (n .routers - 1 ≤ length views) × (n .routers - 1 ≤ length none)
+  views-there none e = (omega (arith, same-n, asked .0 .views-enough), omega (arith, same-n, new-obeys .few-routers, ap length e))
 
-  -- every router enters as by the tables, and the links of the new table carry
-  enters : (m i j : ℕ) → entry-at site (listed views) m i j ≡ entry-at (site-of (says old) (says new) d) (listed views) m i j
-  unfolding site-over site-of
-  enters m i j = go (listed views i m)
-    where
-      b : d < 64
-      b = omega (arith, asked .0 .to-router, new-obeys .few-routers)
+  module _ (before : Guide) (f : before ≡ guide-to old o d) (after : Guide) (h : after ≡ guide-to new n d)
+      (none : List ℕ) (list : List ℕ) (l : list ≡ take (n .routers - 1) views ++ drop (n .routers - 1) none) where
+    abbrev site : Site
+    site = site-over d (before .sets) (after .sets) (after .near)
 
-      go : (v : View) → entry-by (rules-over (by v old-sets new-sets)) i j d ≡ entry-by (rules-of (by v (says old) (says new)) d) i j d
-      go old-view = own-entry old (asked .0 .together .old-accepted) o (asked .1) old-web e d b old-sets f i j
-      go new-view = own-entry new (asked .0 .together .new-accepted) n (asked .2) new-web g d b new-sets h i j
+    -- every router enters as by the tables, and the links of the new table carry
+    enters : (m i j : ℕ) → entry-at site (listed list) m i j ≡ entry-at (site-of (says old) (says new) d) (listed list) m i j
+    unfolding site-over site-of
+    enters m i j = go (listed list i m)
+      where
+        b : d < 64
+        b = omega (arith, asked .0 .to-router, new-obeys .few-routers)
 
-  carries : (i k : ℕ) → site .carries i k ≡ site-of (says old) (says new) d .carries i k
-  unfolding site-over site-of
-  carries = accepted-near new (asked .0 .together .new-accepted) n (asked .2) new-web g
+        go : (v : View) → entry-by (rules-over (by v (before .sets) (after .sets))) i j d ≡ entry-by (rules-of (by v (says old) (says new)) d) i j d
+        go old-view = own-entry old o d before f (asked .0 .together .old-accepted) (asked .1) b i j
+        go new-view = own-entry new n d after h (asked .0 .together .new-accepted) (asked .2) b i j
 
-  abbrev trip : Trip
-  trip = trip-of old new s d views
+    carries : (i k : ℕ) → site .carries i k ≡ site-of (says old) (says new) d .carries i k
+    unfolding site-over site-of
+    carries = own-links new n d after h (asked .0 .together .new-accepted) (asked .2)
 
-  -- the way over the tables: demand 3
-  loopless : Loopless (says new .routers) s (site-of (says old) (says new) d) (listed views) trip
-  unfolding trip-of journey
-  loopless =
-      demand3-for-accepted old new s d (listed views) (asked .0 .together) (asked .0 .from-router) (asked .0 .to-router) .general .loopless
+    abbrev trip : Trip
+    trip = trip-of old new s d views
 
-  -- so the packet goes the same way over the arrays, and N − 1 hops are enough for it
-  follows : Follows site (listed views) 0 s starts-here trip
-  follows = follows-too (site-of (says old) (says new) d) site (listed views) enters carries (loopless .by-rules)
+    -- demand 3, whatever the choice
+    demand3 : (choice : Choice) → Demand3 (says new) s d (site-of (says old) (says new) d) choice
+    demand3 choice = demand3-for-accepted old new s d choice (asked .0 .together) (asked .0 .from-router) (asked .0 .to-router) .general
 
-  same-trip : arriving old-sets new-sets (new-web .near) views d s starts-here 0 (n .routers - 1) ≡ trip
-  same-trip = bounded follows (n .routers - 1) (omega (arith, same-n, loopless .few))
+    -- the first views of the list are those that were lent, and no other is asked for
+    same-byte : (m : ℕ) → m < n .routers - 1 → getD list m 0 ≡ getD views m 0
+    same-byte m b =
+        let k : length (take (n .routers - 1) views) ≡ n .routers - 1 = length-take-le (n .routers - 1) views (omega (arith, same-n, asked .0 .views-enough)) in
+        ap (λ v. getD v m 0) l ∙ List·getD-append (take (n .routers - 1) views) _ 0 m (omega arith) ∙ getD-take (n .routers - 1) views m 0 b
 
-  -- what arriving at the source asks for
-  pub ready : Arriving old-sets new-sets (new-web .near) views d s starts-here 0 (n .routers - 1) trace
-  ready = record {
-    lent = record {
-      old-sets = sets-are (web-weight old-web) d old-sets f;
-      new-sets = sets-are (web-weight new-web) d new-sets h;
-      near-sets = near-are new n new-web g;
-      router = omega (arith, asked .0 .from-router, new-obeys .few-routers);
-      few = omega (arith, same-n, new-obeys .few-routers);
-      room = omega (arith, same-n, new-obeys .some-routers, asked .0 .room);
-    };
-    ends = record {
-      by-rules = subst (Follows site (listed views) 0 s starts-here) (sym same-trip) follows;
-      bytes-found = omega (arith, ap decisions same-trip, loopless .enough, asked .0 .views-enough);
-    };
-  }
+    same-view : (i m : ℕ) → m < says new .routers - 1 → listed list i m ≡ listed views i m
+    unfolding listed
+    same-view i m b = ap (λ v. pick (eqb v 1) new-view old-view) (same-byte m (omega (arith, same-n)))
 
-  -- what it tells is told of the way over the tables
-  pub arrived : (r : Ending) (after : List ℕ)
-      → r ≡ ending-after 0 (arriving old-sets new-sets (new-web .near) views d s starts-here 0 (n .routers - 1))
-      → after ≡ sets trace 0 (arriving old-sets new-sets (new-web .near) views d s starts-here 0 (n .routers - 1) .trace)
-      → (r ≡ ending-after 0 (trip-of old new s d views)) × (after ≡ sets trace 0 (trip-of old new s d views .trace))
-  arrived r after p q = (p ∙ ap (ending-after 0) same-trip, q ∙ ap (λ t. sets trace 0 (t .trace)) same-trip)
+    loopless : Loopless (says new .routers) s (site-of (says old) (says new) d) (listed list) trip
+    unfolding trip-of
+    loopless =
+        subst (Loopless (says new .routers) s (site-of (says old) (says new) d) (listed list))
+        (demand3 (listed views) .early (listed list) same-view)
+        (demand3 (listed list) .loopless)
+
+    -- so the packet goes the same way over the guides, and N − 1 hops are enough for it
+    follows : Follows site (listed list) 0 s starts-here trip
+    follows = follows-too (site-of (says old) (says new) d) site (listed list) enters carries (loopless .by-rules)
+
+    abbrev walk : Trip
+    walk = arriving (before .sets) (after .sets) (after .near) list d s starts-here 0 (n .routers - 1)
+
+    same-trip : walk ≡ trip
+    same-trip = bounded follows (n .routers - 1) (omega (arith, same-n, loopless .few))
+
+    -- what arriving at the source asks for
+    pub ready : Arriving (before .sets) (after .sets) (after .near) list d s starts-here 0 (n .routers - 1)
+    ready = record {
+      lent = record {
+        old-sets = sets-are old o d before f;
+        new-sets = sets-are new n d after h;
+        near-sets = near-are new n d after h;
+        router = omega (arith, asked .0 .from-router, new-obeys .few-routers);
+        few = omega (arith, same-n, new-obeys .few-routers);
+      };
+      ends = subst (Follows site (listed list) 0 s starts-here) (sym same-trip) follows;
+    }
+
+    -- what it tells, taken apart, is told of the way over the tables
+    module _ (number : ℕ) (p : number ≡ ending-number (ending-after 0 walk)) (e : Ending) (of : EndingOf number e) where
+      pub told-ending : e ≡ ending-after 0 trip
+      unfolding ending-after
+      told-ending =
+          of (ending-after 0 trip) (subst (λ r. r < 256) (loopless .to-its-end) at-end) (omega (arith, loopless .few, new-obeys .few-routers))
+          (p ∙ ap (λ t. ending-number (ending-after 0 t)) same-trip)
+        where
+          at-end : getD (trip .trace) (trip .hops) 255 < 256
+          at-end =
+              All-at (λ i. i < 256) (trip .trace) 255 (All-map (λ i b. omega (arith, new-obeys .few-routers)) (trip .trace) (loopless .all-routers)) (omega arith) (trip .hops)
+
+      -- one router more than hops
+      told-hops : e .hops + 1 ≡ length (trip .trace)
+      unfolding ending-after
+      told-hops = omega (arith, ap (λ (x : Ending). x .hops) told-ending, loopless .counted)
+
+      -- what the walk wrote
+      module _ (blank visited : List ℕ) (z : blank ≡ replicate 64 0) (v : visited ≡ sets blank 0 (walk .trace)) where
+        long : 64 ≡ length visited
+        long = places-kept (before .sets) (after .sets) (after .near) list d s starts-here (n .routers - 1) blank number visited z (p, v)
+
+        -- as many routers as are told, and the trace has room for them
+        pub visited-there : (e .hops + 1 ≤ length visited) × (e .hops + 1 ≤ length trace)
+        visited-there = (
+          omega (arith, long, told-hops, loopless .counted, loopless .few, new-obeys .few-routers),
+          omega (arith, told-hops, loopless .counted, loopless .few, asked .0 .room),
+        )
+
+        -- they are the visited ones
+        front : take (length (trip .trace)) visited ≡ trip .trace
+        front =
+            ap (take (length (trip .trace)))
+            (v
+            ∙ ap (λ t. sets blank 0 (t .trace)) same-trip
+            ∙ sets-eq (trip .trace) blank 0 (omega (arith, ap length z, long, told-hops, visited-there .0)))
+            ∙ take-append-seam (trip .trace) _
+
+        -- handed over, they stand in front of the trace
+        pub told-trace : (after : List ℕ) → after ≡ take (e .hops + 1) visited ++ drop (e .hops + 1) trace → after ≡ written trip trace
+        told-trace after a = a ∙ ap (λ k. take k visited ++ drop k trace) told-hops ∙ ap (λ t. t ++ drop (length (trip .trace)) trace) front

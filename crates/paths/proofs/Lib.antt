@@ -1,4 +1,5 @@
 pub mod Walking
+pub mod Numbers
 pub mod Journeys
 pub mod Answers
 pub mod Settled

@@ -4,27 +4,25 @@ use mathlib.Core.Path.{_≡_, refl, sym, _∙_, ap}
 use mathlib.Core.Logic.{_≢_}
 use mathlib.Core.Bool.{Bool, true, false, false≢true}
 use mathlib.Core.List.{List, _∷_}
-use Prim.Native.Nat.{ℕ, zero, suc, _+_, _-_, _≤_, _<_}
+use Prim.Native.Nat.{ℕ, zero, suc, _+_, _-_, _<_}
 use native.Mathlib.Nat.{add-zero}
 use native.Mathlib.Numerals.{add-one}
 use native.Mathlib.Omega.{arith}
-use lib.ListN.{length, getD, drop, set, length-set}
+use lib.ListN.{getD, drop, set}
 use lib.Seq.{sets}
 use borrow.Author.Tests.{ne-eqb}
 use Rattle.rules.specs.Words.{pick}
 use Rattle.rules.specs.NextHops.{has}
 use Rattle.rules.specs.Entries.{Entry, forward, entry-by}
 use Rattle.rules.specs.Paths.{Choice, Outcome, delivered, discarded, unrouted, lost, Trip, Site, by, ended, crossed, follow, arrive, entry-at, listed}
-use Rattle.rules.specs.Demand3.{Follows, delivers, discards, has-none, loses, crosses, decisions}
+use Rattle.rules.specs.Demand3.{Follows, delivers, discards, has-none, loses, crosses}
 use Rattle.rules.proofs.Sets.{member-below}
-use Rattle.rules.proofs.Entries.{home-delivers, delivers-home}
-use Rattle.rules.proofs.LoopFree.{deciders-suc}
+use Rattle.rules.proofs.Entries.{home-delivers}
 use Rattle.entries.specs.declared.Entry.{Entry as EntryHere}
 use Rattle.entries.specs.declared.Entry.the-variants.{Deliver, Discard, NoRoute as NoRoute′, Forward}
 use Rattle.entries.specs.Entries.{entry-told, rules-by}
 use Rattle.paths.specs.declared.Outcome.the-variants.{Delivered, Discarded, NoRoute, Lost}
-use Rattle.paths.specs.declared.Ending.{Ending}
-use Rattle.paths.specs.Walks.{rules-over, site-over, outcome-case, ending-after, arriving, leaving, Arrives, Leaves, Ends, Arriving, Leaving}
+use Rattle.paths.specs.Walks.{rules-over, site-over, outcome-case, ending-after, ending-number, arriving, leaving, Arrives, Leaves, Ends, Arriving, Leaving}
 
 -- ---- the entry that a router finds
 
@@ -49,14 +47,6 @@ module _ (old new views : List ℕ) (d i j hops : ℕ) where
 -- ---- what the rules give, whatever they are
 
 module _ {site : Site} {choice : Choice} where
-  -- away from the destination the router decides
-  decides : {n i j : ℕ} {trip : Trip} → Follows site choice n i j trip → i ≢ site .destination → 0 < decisions trip
-  decides (delivers {n} {i} {j} e) a = absurd (a (delivers-home (site .rules (choice i n)) i j (site .destination) e))
-  decides (discards e) a = omega arith
-  decides (has-none e) a = omega arith
-  decides (loses e f) a = omega arith
-  decides (crosses {onward = onward} e f r) a = omega (arith, deciders-suc (onward .outcome) (onward .hops))
-
   -- a packet that is forwarded over a link that carries crosses it
   goes-on : {n i j : ℕ} {trip : Trip} → Follows site choice n i j trip → (k : ℕ) → entry-at site choice n i j ≡ forward k → site .carries i k ≡ true
       → (onward : Trip) × (trip ≡ crossed i onward) × Follows site choice (suc n) k i onward
@@ -118,19 +108,20 @@ module _ (old new near views : List ℕ) (d i k hops : ℕ) where
       let e : suc left - 1 ≡ left = omega arith in
       rw (e, add-one hops, c)
 
-  pub left-over : (left : ℕ) (lent : List ℕ) → has (getD near i 0) k ≡ true → 0 < left → (r : Ending) (trace : List ℕ)
-      → (r ≡ ending-after (hops + 1) (there (left - 1))) × (trace ≡ sets lent (hops + 1) (there (left - 1) .trace)) → Leaves old new near views d i k hops left lent r trace
-  left-over left lent c h r trace (p, q) = rw (over-link left h c) (p ∙ one-more hops i (there (left - 1)), q)
+  pub left-over : (left : ℕ) (lent : List ℕ) → has (getD near i 0) k ≡ true → 0 < left → (r : ℕ) (trace : List ℕ)
+      → (r ≡ ending-number (ending-after (hops + 1) (there (left - 1)))) × (trace ≡ sets lent (hops + 1) (there (left - 1) .trace)) → Leaves old new near views d i k hops left lent r trace
+  left-over left lent c h r trace (p, q) = rw (over-link left h c) (p ∙ ap ending-number (one-more hops i (there (left - 1))), q)
 
-  pub left-lost : (left : ℕ) (lent : List ℕ) → has (getD near i 0) k ≡ false → Leaves old new near views d i k hops left lent (record { outcome = Lost; router = i; hops = hops }) lent
+  pub left-lost : (left : ℕ) (lent : List ℕ) → has (getD near i 0) k ≡ false → (r : ℕ) → r ≡ ending-number (record { outcome = Lost; router = i; hops = hops })
+      → Leaves old new near views d i k hops left lent r lent
   unfolding leaving site-over ending-after outcome-case
-  left-lost zero lent c = rw (add-zero hops) (refl, refl)
-  left-lost (suc left) lent c = rw (c, add-zero hops) (refl, refl)
+  left-lost zero lent c r e = rw (add-zero hops) (e, refl)
+  left-lost (suc left) lent c r e = rw (c, add-zero hops) (e, refl)
 
   -- what arriving asks of it
-  pub ready-to-arrive : (left : ℕ) (trace : List ℕ) → Leaving old new near views d i k hops left trace → has (getD near i 0) k ≡ true
-      → Arriving old new near views d k i (hops + 1) (left - 1) trace
-  ready-to-arrive left trace l c =
+  pub ready-to-arrive : (left : ℕ) → Leaving old new near views d i k hops left → has (getD near i 0) k ≡ true
+      → Arriving old new near views d k i (hops + 1) (left - 1)
+  ready-to-arrive left l c =
       let (h, e) = l .onward c in
       record {
         lent = record {
@@ -139,7 +130,6 @@ module _ (old new near views : List ℕ) (d i k hops : ℕ) where
           near-sets = l .lent .near-sets;
           router = member-below (getD near i 0) k (l .lent .near-sets .fit i) c;
           few = omega arith;
-          room = omega arith;
         };
         ends = rw (add-one hops) e;
       }
@@ -151,11 +141,6 @@ module _ (old new near views : List ℕ) (d i j hops : ℕ) where
   abbrev come : ℕ → Trip
   come left = arriving old new near views d i j hops left
 
-  -- away from the destination the byte of this hop is there
-  pub byte-there : (left : ℕ) → Ends old new near views d i j hops left → i ≢ d → hops < length views
-  unfolding site-over
-  byte-there left e a = omega (arith, decides (e .by-rules) a)
-
   -- the entry that was found, as the code tells it
   module _ (s : EntryHere) (q : entry-told s ≡ found old new views d i j hops) where
     -- it is applied
@@ -164,60 +149,50 @@ module _ (old new near views : List ℕ) (d i j hops : ℕ) where
     applied zero = rw q
     applied (suc left) = rw q
 
-    -- this router is written
-    module _ (left : ℕ) (lent written : List ℕ) (v : written ≡ set lent hops i) where
-      abbrev Arrived : Ending → List ℕ → Type 0
-      Arrived r trace = Arrives old new near views d i j hops left lent r trace
-
-      -- the packet ends here
-      ends-as : (o : Outcome) → come left ≡ ended o i → Arrived (record { outcome = outcome-case o; router = i; hops = hops }) written
-      unfolding ending-after
-      ends-as o e = rw (e, add-zero hops) (refl, v)
-
-      pub delivers-here : s ≡ Deliver → Arrived (record { outcome = Delivered; router = i; hops = hops }) written
-      unfolding entry-told outcome-case
-      delivers-here e = ends-as delivered (applied left ∙ rw e)
-
-      pub discards-here : s ≡ Discard → Arrived (record { outcome = Discarded; router = i; hops = hops }) written
-      unfolding entry-told outcome-case
-      discards-here e = ends-as discarded (applied left ∙ rw e)
-
-      pub no-route-here : s ≡ NoRoute′ → Arrived (record { outcome = NoRoute; router = i; hops = hops }) written
-      unfolding entry-told outcome-case
-      no-route-here e = ends-as unrouted (applied left ∙ rw e)
-
+    module _ (left : ℕ) where
       -- the packet leaves for k
       module _ (k : ℕ) (e : s ≡ Forward k) where
         leaves : come left ≡ leaving old new near views d i k hops left
         unfolding entry-told
         leaves = applied left ∙ rw e
 
-        pub leaves-here : (r : Ending) (trace : List ℕ) → Leaves old new near views d i k hops left written r trace → Arrived r trace
-        leaves-here r trace (p, t) = rw leaves (p, rw (from-here old new near views d i k hops left) (rw (add-one hops, v) at t))
-
         -- over a real link the packet ends by the rules too, and not for want of hops
         onward-ends : Ends old new near views d i j hops left → has (getD near i 0) k ≡ true
             → (0 < left) × Ends old new near views d k i (suc hops) (left - 1)
         unfolding site-over entry-told
         onward-ends a c =
-            let (t, p, f) = goes-on (a .by-rules) k (sym q ∙ ap entry-told e) c in
+            let (t, p, f) = goes-on a k (sym q ∙ ap entry-told e) c in
             let h = some-left old new near views d i k hops left t (sym leaves ∙ p) in
             let o = same-onward i t _ (sym p ∙ leaves ∙ over-link old new near views d i k hops left h c) in
             let o′ : t ≡ arriving old new near views d k i (suc hops) (left - 1) = rw (add-one hops) at o in
-            let b : hops + decisions (crossed i t) ≤ length views = rw p at (a .bytes-found) in
-            let b′ : suc hops + decisions t ≤ length views = omega (arith, deciders-suc (t .outcome) (t .hops)) in
-            (h, record { by-rules = rw o′ at f; bytes-found = rw o′ at b′ })
+            (h, rw o′ at f)
 
         -- what leaving asks of it
-        pub ready-to-leave : Arriving old new near views d i j hops left lent → Leaving old new near views d i k hops left written
-        ready-to-leave a = record {
-          lent = record {
-            old-sets = a .lent .old-sets;
-            new-sets = a .lent .new-sets;
-            near-sets = a .lent .near-sets;
-            router = a .lent .router;
-            few = a .lent .few;
-            room = rw (v, length-set lent hops i) (a .lent .room);
-          };
-          onward = onward-ends (a .ends);
-        }
+        pub ready-to-leave : Arriving old new near views d i j hops left → Leaving old new near views d i k hops left
+        ready-to-leave a = record { lent = a .lent; onward = onward-ends (a .ends) }
+
+      -- this router is written
+      module _ (lent written : List ℕ) (v : written ≡ set lent hops i) where
+        abbrev Arrived : ℕ → List ℕ → Type 0
+        Arrived r trace = Arrives old new near views d i j hops left lent r trace
+
+        -- the packet ends here
+        ends-as : (o : Outcome) → come left ≡ ended o i → (r : ℕ) → r ≡ ending-number (record { outcome = outcome-case o; router = i; hops = hops }) → Arrived r written
+        unfolding ending-after
+        ends-as o e r f = rw (e, add-zero hops) (f, v)
+
+        pub delivers-here : s ≡ Deliver → (r : ℕ) → r ≡ ending-number (record { outcome = Delivered; router = i; hops = hops }) → Arrived r written
+        unfolding entry-told outcome-case
+        delivers-here e = ends-as delivered (applied left ∙ rw e)
+
+        pub discards-here : s ≡ Discard → (r : ℕ) → r ≡ ending-number (record { outcome = Discarded; router = i; hops = hops }) → Arrived r written
+        unfolding entry-told outcome-case
+        discards-here e = ends-as discarded (applied left ∙ rw e)
+
+        pub no-route-here : s ≡ NoRoute′ → (r : ℕ) → r ≡ ending-number (record { outcome = NoRoute; router = i; hops = hops }) → Arrived r written
+        unfolding entry-told outcome-case
+        no-route-here e = ends-as unrouted (applied left ∙ rw e)
+
+        -- or leaves for k
+        pub leaves-here : (k : ℕ) → s ≡ Forward k → (r : ℕ) (trace : List ℕ) → Leaves old new near views d i k hops left written r trace → Arrived r trace
+        leaves-here k e r trace (p, t) = rw (leaves k e) (p, rw (from-here old new near views d i k hops left) (rw (add-one hops, v) at t))

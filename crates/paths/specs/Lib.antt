@@ -1,3 +1,3 @@
-pub mod Walks
 pub mod Tracings
+pub mod Walks
 pub mod Loopless

@@ -1,19 +1,17 @@
 // Following one packet from router to router: arriving and leaving take turns, and the path question.
 ghost use mathlib.Core.Path.{_≡_};
-ghost use mathlib.Core.Logic.{_≢_};
-ghost use Prim.Native.Nat.{_+_, _<_};
-ghost use lib.ListN.{length, set};
-ghost use lib.Seq.{sets};
+ghost use mathlib.Core.List.{_++_};
+ghost use Prim.Native.Nat.{_<_, _≤_};
+ghost use lib.ListN.{length, take, drop, set, replicate};
 ghost use Rattle.rules.specs.Words.{_≤?_, every};
 ghost use Rattle.rules.specs.Entries.{entry-by};
 ghost use Rattle.rules.specs.Paths.{by, listed};
 ghost use Rattle.rules.specs.Questions.{bad-views, trip-of};
 ghost use Rattle.rules.specs.Demand1.{PathAsked};
 ghost use Rattle.tables.specs.Readings.{outline-of};
-ghost use Rattle.webs.specs.Webs.{web-weight};
 ghost use Rattle.search.specs.Steps.{AreSets};
 ghost use Rattle.entries.specs.Entries.{entry-told};
-ghost use Rattle.paths.specs.Walks.{sets-to, rules-over, ending-after, Arriving, Arrives, Leaving, Leaves};
+ghost use Rattle.paths.specs.Walks.{guide-to, rules-over, ending-after, written, ending-number, OutcomeOf, EndingOf, Arriving, Arrives, Leaving, Leaves};
 ghost use Rattle.paths.specs.Tracings.{outcome-number, number-for, Traces};
 use entries::Entry;
 use entries::STARTS_HERE;
@@ -24,7 +22,6 @@ use routes::sets_by;
 use search::costs_from;
 use sets::has;
 use tables::Outline;
-use webs::Web;
 use webs::web_of;
 
 // How a packet ended.
@@ -60,12 +57,21 @@ pub fn outcome_code(outcome: Outcome) -> u8
     }
 }
 
-// The next-hop sets of all routers for a destination.
-fn sets_to(web: Web, destination: u8) -> [u64; 64]
-    ensures { λ r. ⌜ r ≡ sets-to (web-weight web) destination ⌝ }
+// What a walk reads of one view: each router's next-hop set for the destination, and the set of those that it is linked to.
+struct Guide {
+    sets: [u64; 64],
+    near: [u64; 64],
+}
+
+// The guide of a view, by its table.
+fn guide_to(table: &[u8], t: Outline, destination: u8) -> Guide
+    ensures { λ r. ⌜ r ≡ guide-to (now (table .entry)) t destination ⌝ }
 {
+    let web = web_of(table, t);
     let costs = costs_from(web, destination);
-    sets_by(web, costs)
+    let sets = sets_by(web, costs);
+    let near = web.near;
+    Guide { sets, near }
 }
 
 // The entry of the router that decides after so many hops: its byte of the list says the view for the whole entry. The destination delivers in
@@ -73,13 +79,13 @@ fn sets_to(web: Web, destination: u8) -> [u64; 64]
 fn entry_at<'a>(
     old: &'a [u64; 64],
     new: &'a [u64; 64],
-    views: &[u8],
+    views: &'a [u8; 64],
     destination: u8,
     router: u8,
     previous: u8,
     hops: u8,
 ) -> Entry
-    requires { ⌜ AreSets (now old) × AreSets (now new) × (router < 64) × (router ≢ destination → hops < length (now views)) ⌝ }
+    requires { ⌜ AreSets (now old) × AreSets (now new) × (router < 64) × (hops < 64) ⌝ }
     ensures { λ r. ⌜ entry-told r
         ≡ entry-by (rules-over (by (listed (now (views .entry)) router hops) (now (old .entry)) (now (new .entry)))) router previous destination ⌝ }
 {
@@ -94,48 +100,86 @@ fn entry_at<'a>(
 }
 
 // The router is written behind those that were visited before it.
-fn visit(trace: &mut [u8], hops: u8, router: u8)
-    requires { ⌜ hops < length (now trace) ⌝ }
+fn visit(trace: &mut [u8; 64], hops: u8, router: u8)
+    requires { ⌜ hops < 64 ⌝ }
     ensures { λ _. ⌜ now (trace .exit) ≡ set (now (trace .entry)) hops router ⌝ }
 {
     trace[hops as usize] = router;
 }
 
-// The packet arrives at a router: its entry is applied. The hops that are left never run out.
+// An ending as one number: the outcome's number, the router and the hops, a byte each.
+fn number_of(ending: Ending) -> u32
+    ensures { λ r. ⌜ r ≡ ending-number ending ⌝ }
+{
+    let outcome = ending.outcome;
+    let code = outcome_code(outcome);
+    (code as u32) + 256 * (ending.router as u32) + 65536 * (ending.hops as u32)
+}
+
+// The outcome that has a number.
+fn outcome_of(code: u8) -> Outcome
+    ensures { λ r. ⌜ OutcomeOf code r ⌝ }
+{
+    if code == 128 {
+        return Outcome::Delivered;
+    }
+    if code == 129 {
+        return Outcome::Discarded;
+    }
+    if code == 130 {
+        return Outcome::NoRoute;
+    }
+    Outcome::Lost
+}
+
+// The ending that has a number.
+fn ending_of(number: u32) -> Ending
+    ensures { λ r. ⌜ EndingOf number r ⌝ }
+{
+    let outcome = outcome_of((number % 256) as u8);
+    Ending {
+        outcome,
+        router: (number / 256 % 256) as u8,
+        hops: (number / 65536 % 256) as u8,
+    }
+}
+
+// The packet arrives at a router: its entry is applied. The hops that are left never run out. The ending comes back as one number, so that the
+// compiler makes a loop of the two functions.
 fn arrive<'a>(
     old: &'a [u64; 64],
     new: &'a [u64; 64],
     near: &'a [u64; 64],
-    views: &[u8],
+    views: &'a [u8; 64],
     destination: u8,
     router: u8,
     previous: u8,
     hops: u8,
     left: u8,
-    trace: &mut [u8],
-) -> Ending
-    requires { ⌜ Arriving (now old) (now new) (now near) (now views) destination router previous hops left (now trace) ⌝ }
+    trace: &mut [u8; 64],
+) -> u32
+    requires { ⌜ Arriving (now old) (now new) (now near) (now views) destination router previous hops left ⌝ }
     ensures { λ r. ⌜ Arrives (now (old .entry)) (now (new .entry)) (now (near .entry)) (now (views .entry)) destination
         router previous hops left (now (trace .entry)) r (now (trace .exit)) ⌝ }
 {
     visit(trace, hops, router);
     let entry = entry_at(old, new, views, destination, router, previous, hops);
     match entry {
-        Entry::Deliver => Ending {
+        Entry::Deliver => number_of(Ending {
             outcome: Outcome::Delivered,
             router,
             hops,
-        },
-        Entry::Discard => Ending {
+        }),
+        Entry::Discard => number_of(Ending {
             outcome: Outcome::Discarded,
             router,
             hops,
-        },
-        Entry::NoRoute => Ending {
+        }),
+        Entry::NoRoute => number_of(Ending {
             outcome: Outcome::NoRoute,
             router,
             hops,
-        },
+        }),
         Entry::Forward(hop) => leave(
             old,
             new,
@@ -156,15 +200,15 @@ fn leave<'a>(
     old: &'a [u64; 64],
     new: &'a [u64; 64],
     near: &'a [u64; 64],
-    views: &[u8],
+    views: &'a [u8; 64],
     destination: u8,
     router: u8,
     hop: u8,
     hops: u8,
     left: u8,
-    trace: &mut [u8],
-) -> Ending
-    requires { ⌜ Leaving (now old) (now new) (now near) (now views) destination router hop hops left (now trace) ⌝ }
+    trace: &mut [u8; 64],
+) -> u32
+    requires { ⌜ Leaving (now old) (now new) (now near) (now views) destination router hop hops left ⌝ }
     ensures { λ r. ⌜ Leaves (now (old .entry)) (now (new .entry)) (now (near .entry)) (now (views .entry)) destination
         router hop hops left (now (trace .entry)) r (now (trace .exit)) ⌝ }
 {
@@ -182,14 +226,33 @@ fn leave<'a>(
             trace,
         );
     }
-    Ending {
+    number_of(Ending {
         outcome: Outcome::Lost,
         router,
         hops,
+    })
+}
+
+// The 64 places that a walk has for views, or for routers.
+fn no_bytes() -> [u8; 64]
+    ensures { λ r. ⌜ r ≡ replicate 64 0 ⌝ }
+{
+    [0; 64]
+}
+
+// The first n bytes of one list, over those of another.
+fn hand_over(n: usize, from: &[u8], to: &mut [u8])
+    requires { ⌜ (n ≤ length (now from)) × (n ≤ length (now to)) ⌝ }
+    ensures { λ _. ⌜ now (to .exit) ≡ take n (now (from .entry)) ++ drop n (now (to .entry)) ⌝ }
+{
+    let mut i = 0;
+    while i < n {
+        to[i] = from[i];
+        i += 1;
     }
 }
 
-// The packet of a question that is not refused: costs are found once per view, and the walk reads no table.
+// The packet of a question that is not refused: costs are found once per view, the walk reads no table, and the trace is written when it has ended.
 fn journey(
     old: &[u8],
     o: Outline,
@@ -203,26 +266,30 @@ fn journey(
     requires { ⌜ PathAsked (now old) (now new) source destination (now views) (now trace) × (o ≡ outline-of (now old)) × (n ≡ outline-of (now new)) ⌝ }
     ensures { λ r. ⌜
         (r ≡ ending-after 0 (trip-of (now (old .entry)) (now (new .entry)) source destination (now (views .entry))))
-        × (now (trace .exit) ≡ sets (now (trace .entry)) 0
-        (trip-of (now (old .entry)) (now (new .entry)) source destination (now (views .entry)) .trace))
+        × (now (trace .exit) ≡ written (trip-of (now (old .entry)) (now (new .entry)) source destination (now (views .entry))) (now (trace .entry)))
         ⌝ }
 {
-    let old_web = web_of(old, o);
-    let old_sets = sets_to(old_web, destination);
-    let new_web = web_of(new, n);
-    let new_sets = sets_to(new_web, destination);
-    arrive(
-        &old_sets,
-        &new_sets,
-        &new_web.near,
-        views,
+    let before = guide_to(old, o, destination);
+    let after = guide_to(new, n, destination);
+    let left = n.routers - 1;
+    let mut list = no_bytes();
+    hand_over(left as usize, views, &mut list);
+    let mut visited = no_bytes();
+    let number = arrive(
+        &before.sets,
+        &after.sets,
+        &after.near,
+        &list,
         destination,
         source,
         STARTS_HERE,
         0,
-        n.routers - 1,
-        trace,
-    )
+        left,
+        &mut visited,
+    );
+    let ending = ending_of(number);
+    hand_over((ending.hops as usize) + 1, &visited, trace);
+    ending
 }
 
 // Whether each byte is 0 or 1.

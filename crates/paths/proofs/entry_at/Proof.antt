@@ -1,6 +1,5 @@
 -- `paths::entry_at` meets its contract.
 -- Assumes nothing.
-use native.Mathlib.Omega.{arith}
 use borrow.Author.Needs.{needs}
 use Rattle.paths.proofs.Walking.{found-home, found-new, found-old}
 use Rattle.paths.proofs.entry_at.Statement.{statement}
@@ -9,8 +8,8 @@ use Rattle.paths.proofs.entry_at.Tie as tie
 returns : tie.Need-returns
 returns c = found-home _ _ _ _ _ _ _ (c .if1 .taken)
 
-shared-slice-read-if2 : tie.Need-shared-slice-read-if2
-shared-slice-read-if2 c = omega (arith, c .before .before .before .pre .3 (c .before .if1 .left))
+element-copy-out-if2 : tie.Need-element-copy-out-if2
+element-copy-out-if2 c = search needs
 
 mul-decide : tie.Need-mul-decide
 mul-decide c = search needs
@@ -41,7 +40,7 @@ entry-at-spec =
     tie.close
     (tie.spec
     returns
-    shared-slice-read-if2
+    element-copy-out-if2
     mul-decide
     element-copy-out-decide
     decide-requires
