@@ -1,6 +1,6 @@
 -- An ending as one number, and what the number is taken apart into.
 -- Assumes nothing.
-use mathlib.Core.Path.{_≡_, refl, _∙_, ap}
+use mathlib.Core.Path.{_≡_, refl, sym, _∙_, ap}
 use mathlib.Core.Logic.{_≢_}
 use Prim.Native.Nat.{ℕ, _+_, _*_, _/_, _%_, _<_}
 use native.Mathlib.Omega.{arith}
@@ -9,35 +9,19 @@ use Rattle.paths.specs.declared.Outcome.the-variants.{Delivered, Discard
 use Rattle.paths.specs.declared.Ending.{Ending}
 use Rattle.paths.specs.Tracings.{outcome-number}
 use Rattle.paths.specs.Walks.{ending-number, OutcomeOf, EndingOf}
+use Rattle.paths.proofs.Settled.{outcome-apart}
 
-module _ (n : ℕ) where
-  pub is-delivered : n ≡ 128 → OutcomeOf n Delivered
-  unfolding outcome-number
-  is-delivered e Delivered q = refl
-  is-delivered e Discarded q = absurd (omega arith)
-  is-delivered e NoRoute q = absurd (omega arith)
-  is-delivered e Lost q = absurd (omega arith)
+-- no other outcome has an outcome's number
+pub has-number : (n : ℕ) (o : Outcome) → n ≡ outcome-number o → OutcomeOf n o
+has-number n o e o′ q = outcome-apart o o′ (sym e ∙ q)
 
-  pub is-discarded : n ≡ 129 → OutcomeOf n Discarded
-  unfolding outcome-number
-  is-discarded e Delivered q = absurd (omega arith)
-  is-discarded e Discarded q = refl
-  is-discarded e NoRoute q = absurd (omega arith)
-  is-discarded e Lost q = absurd (omega arith)
-
-  pub is-no-route : n ≡ 130 → OutcomeOf n NoRoute
-  unfolding outcome-number
-  is-no-route e Delivered q = absurd (omega arith)
-  is-no-route e Discarded q = absurd (omega arith)
-  is-no-route e NoRoute q = refl
-  is-no-route e Lost q = absurd (omega arith)
-
-  pub is-lost : n ≢ 128 → n ≢ 129 → n ≢ 130 → OutcomeOf n Lost
-  unfolding outcome-number
-  is-lost a b c Delivered q = absurd (a q)
-  is-lost a b c Discarded q = absurd (b q)
-  is-lost a b c NoRoute q = absurd (c q)
-  is-lost a b c Lost q = refl
+-- lost is the one that is left
+pub is-lost : (n : ℕ) → n ≢ 128 → n ≢ 129 → n ≢ 130 → OutcomeOf n Lost
+unfolding outcome-number
+is-lost n a b c Delivered q = absurd (a q)
+is-lost n a b c Discarded q = absurd (b q)
+is-lost n a b c NoRoute q = absurd (c q)
+is-lost n a b c Lost q = refl
 
 -- an outcome's number is a byte
 number-fits : (o : Outcome) → outcome-number o < 256
