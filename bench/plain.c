@@ -1,4 +1,4 @@
-/* The library's questions in plain C: neighbour lists, a 64-bit open set, nothing allocated. It shares no code with the library. */
+/* Four of the library's questions in plain C, reading, fill, interface table and path: neighbour lists, a 64-bit open set, nothing allocated. It shares no code with the library. */
 #include "plain.h"
 
 enum { ROUTERS = 0x01, NAME = 0x02, LINK = 0x04, END = 0x7F };

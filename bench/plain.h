@@ -1,4 +1,4 @@
-/* The library's questions in plain C, with the same arguments and the same 64-bit answers as the functions tracer_*. */
+/* Four of the library's questions in plain C, with the same arguments and the same 64-bit answers as the functions tracer_*. */
 #ifndef PLAIN_H
 #define PLAIN_H
 

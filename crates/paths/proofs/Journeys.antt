@@ -21,12 +21,12 @@ use Rattle.rules.specs.Paths.{View, old-view, new-view, by, Choice, listed, Tri
 use Rattle.rules.specs.Questions.{trip-of}
 use Rattle.rules.specs.Demand1.{IsAccepted, PathAsked}
 use Rattle.rules.specs.Demand3.{Follows, delivers, discards, has-none, loses, crosses, Loopless, Demand3}
-use Rattle.rules.proofs.Basics.{All-map, All-at, length-values, value-at, value-behind}
+use Rattle.rules.proofs.Basics.{length-values, value-at, value-behind}
 use Rattle.rules.proofs.Acceptance.{obeys}
 use Rattle.rules.proofs.Weights.{net}
 use Rattle.rules.proofs.LeastCost.{out-of-reach}
 use Rattle.rules.proofs.Sets.{set-below, empty-sets}
-use Rattle.rules.proofs.LoopFree.{bounded}
+use Rattle.rules.proofs.LoopFree.{bounded, ends-inside}
 use Rattle.rules.proofs.Answered.{demand3-for-accepted}
 use Rattle.tables.specs.Readings.{outline-of}
 use Rattle.tables.specs.declared.Outline.{Outline}
@@ -40,7 +40,8 @@ use Rattle.search.proofs.OfTable.{found-hops}
 use Rattle.entries.proofs.Entries.{by-set}
 use Rattle.paths.specs.declared.Ending.{Ending}
 use Rattle.paths.specs.declared.Guide.{Guide}
-use Rattle.paths.specs.Walks.{sets-to, guide-to, rules-over, site-over, ending-after, written, ending-number, EndingOf, arriving, Arrives, Arriving}
+use Rattle.paths.proofs.Numbers.{told-again}
+use Rattle.paths.specs.Walks.{sets-to, guide-to, rules-over, site-over, ending-after, written, ending-number, ending-of, arriving, Arrives, Arriving}
 
 -- ---- the arrays
 
@@ -206,16 +207,15 @@ module _ (old : List ℕ) (o : Outline) (new : List ℕ) (n : Outline) (s d : �
     }
 
     -- what it tells, taken apart, is told of the way over the tables
-    module _ (number : ℕ) (p : number ≡ ending-number (ending-after 0 walk)) (e : Ending) (of : EndingOf number e) where
+    module _ (number : ℕ) (p : number ≡ ending-number (ending-after 0 walk)) (e : Ending) (of : e ≡ ending-of number) where
       pub told-ending : e ≡ ending-after 0 trip
       unfolding ending-after
       told-ending =
-          of (ending-after 0 trip) (subst (λ r. r < 256) (loopless .to-its-end) at-end) (omega (arith, loopless .few, new-obeys .few-routers))
-          (p ∙ ap (λ t. ending-number (ending-after 0 t)) same-trip)
-        where
-          at-end : getD (trip .trace) (trip .hops) 255 < 256
-          at-end =
-              All-at (λ i. i < 256) (trip .trace) 255 (All-map (λ i b. omega (arith, new-obeys .few-routers)) (trip .trace) (loopless .all-routers)) (omega arith) (trip .hops)
+          of
+          ∙ ap ending-of (p ∙ ap (λ t. ending-number (ending-after 0 t)) same-trip)
+          ∙ told-again (ending-after 0 trip)
+          (omega (arith, ends-inside loopless, new-obeys .few-routers))
+          (omega (arith, loopless .few, new-obeys .few-routers))
 
       -- one router more than hops
       told-hops : e .hops + 1 ≡ length (trip .trace)

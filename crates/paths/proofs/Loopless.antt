@@ -21,37 +21,21 @@ use Rattle.rules.proofs.Cases.{answered-exactly}
 use Rattle.rules.proofs.Outputs.{outputs-hold}
 use Rattle.rules.proofs.Refusals.{lent-outputs-stay}
 use Rattle.rules.proofs.Values.{values-given}
-use Rattle.paths.specs.declared.Outcome.{Outcome as OutcomeHere}
-use Rattle.paths.specs.declared.Outcome.the-variants.{Delivered, Discarded, NoRoute, Lost}
 use Rattle.paths.specs.declared.Ending.{Ending as EndingHere}
 use Rattle.paths.specs.declared.Tracing.the-variants.{Ended, Refused}
-use Rattle.paths.specs.Walks.{outcome-case}
+use Rattle.paths.specs.Walks.{outcome-case, outcome-told}
 use Rattle.paths.specs.Tracings.{outcome-number, tracing-numbers}
-use Rattle.paths.specs.Loopless.{deciders, AllNew, AtLeastCost, Loopless, Demand3OfTheCode}
+use Rattle.paths.specs.Loopless.{AllNew, AtLeastCost, Loopless, Demand3OfTheCode}
 use Rattle.paths.proofs.Answers.{case-code}
 use Rattle.paths.proofs.Settled.{outcome-apart}
 
--- the outcome of a case
-outcome-told : OutcomeHere → Outcome
-outcome-told Delivered = delivered
-outcome-told Discarded = discarded
-outcome-told NoRoute = unrouted
-outcome-told Lost = lost
-
+-- the outcome of an outcome's case is itself
 told-again : (o : Outcome) → outcome-told (outcome-case o) ≡ o
 unfolding outcome-told outcome-case
 told-again delivered = refl
 told-again discarded = refl
 told-again unrouted = refl
 told-again lost = refl
-
--- the routers that decided are counted alike
-deciders-same : (o : Outcome) (hops : ℕ) → deciders (outcome-case o) hops ≡ rule.deciders o hops
-unfolding outcome-case
-deciders-same delivered hops = refl
-deciders-same discarded hops = refl
-deciders-same unrouted hops = refl
-deciders-same lost hops = refl
 
 module _ (old new : List ℕ) (s d : ℕ) (views trace : List ℕ) where
   abbrev trip : Trip
@@ -75,7 +59,7 @@ module _ (old new : List ℕ) (s d : ℕ) (views trace : List ℕ) where
     -- the bytes of the routers that decided are 1, so that they used the new view
     new-views : AllNew views own → rule.AllNew (listed views) trip
     unfolding listed
-    new-views all n h = pick-t _ _ _ (eq-eqb (byte views n) 1 (all n (rw (deciders-same (trip .outcome) (trip .hops)) h)))
+    new-views all n h = pick-t _ _ _ (eq-eqb (byte views n) 1 (all n (rw (told-again (trip .outcome)) h)))
 
     cheapest : AllNew views own → AtLeastCost new s d own (trace-after old new s d views trace)
     unfolding outcome-case outcome-told trip-of

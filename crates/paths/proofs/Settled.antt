@@ -3,28 +3,24 @@
 use mathlib.Core.Path.{_≡_, refl, sym, _∙_, ap}
 use mathlib.Core.List.{List}
 use Prim.Native.Nat.{ℕ}
-use Rattle.rules.specs.Words.{_=?_, pick}
 use Rattle.rules.specs.Promises.{Settles}
 use Rattle.rules.proofs.Uniqueness.{value-settled}
 use Rattle.paths.specs.declared.Outcome.{Outcome}
 use Rattle.paths.specs.declared.Outcome.the-variants.{Delivered, Discarded, NoRoute, Lost}
 use Rattle.paths.specs.declared.Tracing.{Tracing}
 use Rattle.paths.specs.declared.Tracing.the-variants.{Ended, Refused}
-use Rattle.paths.specs.Tracings.{outcome-number, tracing-numbers, Numbered, Traces}
+use Rattle.paths.specs.Tracings.{outcome-number, outcome-of, tracing-numbers, Numbered, Traces}
 
--- the outcome that has a number
-outcome-of : ℕ → Outcome
-outcome-of n = pick (n =? 128) Delivered (pick (n =? 129) Discarded (pick (n =? 130) NoRoute Lost))
-
-numbered : (o : Outcome) → outcome-of (outcome-number o) ≡ o
+-- the outcome that has an outcome's number is itself
+pub outcome-again : (o : Outcome) → outcome-of (outcome-number o) ≡ o
 unfolding outcome-of outcome-number
-numbered Delivered = refl
-numbered Discarded = refl
-numbered NoRoute = refl
-numbered Lost = refl
+outcome-again Delivered = refl
+outcome-again Discarded = refl
+outcome-again NoRoute = refl
+outcome-again Lost = refl
 
 pub outcome-apart : (x y : Outcome) → outcome-number x ≡ outcome-number y → x ≡ y
-outcome-apart x y e = sym (numbered x) ∙ ap outcome-of e ∙ numbered y
+outcome-apart x y e = sym (outcome-again x) ∙ ap outcome-of e ∙ outcome-again y
 
 pub outcome-code-settled : (o : Outcome) → Settles (λ r. r ≡ outcome-number o)
 outcome-code-settled o = value-settled _

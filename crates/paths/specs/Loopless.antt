@@ -9,28 +9,21 @@ use Rattle.rules.specs.Table.{says, byte}
 use Rattle.rules.specs.Links.{weight}
 use Rattle.rules.specs.Costs.{cost, no-cost}
 use Rattle.rules.specs.Demand1.{PathAsked}
-use Rattle.rules.specs.Demand3.{EachHop, total}
-use Rattle.paths.specs.declared.Outcome.{Outcome}
+use Rattle.rules.specs.Demand3.{EachHop, deciders, total}
 use Rattle.paths.specs.declared.Outcome.the-variants.{Delivered, Discarded, NoRoute, Lost}
 use Rattle.paths.specs.declared.Ending.{Ending}
 use Rattle.paths.specs.declared.Tracing.{Tracing}
 use Rattle.paths.specs.declared.Tracing.the-variants.{Ended, Refused}
 use Rattle.paths.specs.Tracings.{Traces}
+use Rattle.paths.specs.Walks.{outcome-told}
 
 -- the visited routers, as the trace holds them: hops + 1 bytes
 abbrev pub visited : Ending → List ℕ → List ℕ
 visited e trace = take (suc (e .hops)) trace
 
--- how many routers decided: all that were visited, except that the destination delivers without deciding
-abbrev pub deciders : Outcome → ℕ → ℕ
-deciders Delivered hops = hops
-deciders Discarded hops = suc hops
-deciders NoRoute hops = suc hops
-deciders Lost hops = suc hops
-
 -- the byte of every router that decided is 1
 abbrev pub AllNew : List ℕ → Ending → Type 0
-AllNew views e = (n : ℕ) → n < deciders (e .outcome) (e .hops) → byte views n ≡ 1
+AllNew views e = (n : ℕ) → n < deciders (outcome-told (e .outcome)) (e .hops) → byte views n ≡ 1
 
 -- nothing is discarded or lost; where a route exists the packet arrives at least cost; where none does the answer is no route, at the source
 pub record AtLeastCost (new : List ℕ) (s d : ℕ) (e : Ending) (after : List ℕ) : Type 0 where

@@ -3,7 +3,7 @@ use mathlib.Core.Path.{_≡_}
 use mathlib.Core.Bool.{_||_}
 use mathlib.Core.List.{List, [], _∷_}
 use Prim.Native.Nat.{ℕ}
-use Rattle.rules.specs.Words.{_<?_, _when_, first_otherwise_}
+use Rattle.rules.specs.Words.{_=?_, _<?_, pick, _when_, first_otherwise_}
 use Rattle.rules.specs.Questions.{Answer, answered, refused-with, IsNumber, Ending, bad-router, bad-views, path-answer, trace-after}
 use Rattle.paths.specs.declared.Outcome.{Outcome}
 use Rattle.paths.specs.declared.Outcome.the-variants.{Delivered, Discarded, NoRoute, Lost}
@@ -16,6 +16,10 @@ outcome-number Delivered = 128
 outcome-number Discarded = 129
 outcome-number NoRoute = 130
 outcome-number Lost = 132
+
+-- the outcome that has this number; every other number counts as lost
+unfoldable pub outcome-of : ℕ → Outcome
+outcome-of n = pick (n =? 128) Delivered (pick (n =? 129) Discarded (pick (n =? 130) NoRoute Lost))
 
 -- the numbers of each case
 unfoldable pub tracing-numbers : Tracing → Answer Ending

@@ -2,7 +2,7 @@
 use mathlib.Core.Path.{_≡_}
 use mathlib.Core.Bool.{true}
 use mathlib.Core.List.{List, _++_, map}
-use Prim.Native.Nat.{ℕ, zero, suc, _+_, _-_, _*_, _<_}
+use Prim.Native.Nat.{ℕ, zero, suc, _+_, _-_, _*_, _/_, _%_, _<_}
 use lib.ListN.{length, drop, getD}
 use lib.Seq.{sets}
 use Rattle.rules.specs.Words.{below}
@@ -19,7 +19,7 @@ use Rattle.paths.specs.declared.Outcome.{Outcome as OutcomeHere}
 use Rattle.paths.specs.declared.Outcome.the-variants.{Delivered, Discarded, NoRoute, Lost}
 use Rattle.paths.specs.declared.Ending.{Ending}
 use Rattle.paths.specs.declared.Guide.{Guide}
-use Rattle.paths.specs.Tracings.{outcome-number}
+use Rattle.paths.specs.Tracings.{outcome-number, outcome-of}
 
 -- ---- what a walk reads
 
@@ -45,12 +45,18 @@ site-over d old new near = record { destination = d; rules = λ v. rules-over (b
 
 -- ---- what it tells
 
--- the case of each outcome
+-- the case of each outcome, and the outcome of each case
 unfoldable pub outcome-case : Outcome → OutcomeHere
 outcome-case delivered = Delivered
 outcome-case discarded = Discarded
 outcome-case unrouted = NoRoute
 outcome-case lost = Lost
+
+unfoldable pub outcome-told : OutcomeHere → Outcome
+outcome-told Delivered = delivered
+outcome-told Discarded = discarded
+outcome-told NoRoute = unrouted
+outcome-told Lost = lost
 
 -- the ending of a packet that goes on like this after so many hops
 unfoldable pub ending-after : ℕ → Trip → Ending
@@ -60,17 +66,13 @@ ending-after hops trip = record { outcome = outcome-case (trip .outcome); router
 abbrev pub written : Trip → List ℕ → List ℕ
 written trip trace = trip .trace ++ drop (length (trip .trace)) trace
 
--- an ending as one number: the outcome's number, the router and the hops, a byte each
+-- an ending as one number: the router, the hops and the outcome's number, a byte each
 unfoldable pub ending-number : Ending → ℕ
-ending-number e = outcome-number (e .outcome) + 256 * e .router + 65536 * e .hops
+ending-number e = e .router + 256 * e .hops + 65536 * outcome-number (e .outcome)
 
--- r is the outcome that has the number, if one has it
-abbrev pub OutcomeOf : ℕ → OutcomeHere → Type 0
-OutcomeOf number r = (o : OutcomeHere) → number ≡ outcome-number o → r ≡ o
-
--- r is the ending that has the number, if one has it whose router and hops are bytes
-abbrev pub EndingOf : ℕ → Ending → Type 0
-EndingOf number r = (e : Ending) → e .router < 256 → e .hops < 256 → number ≡ ending-number e → r ≡ e
+-- the ending that such a number tells
+unfoldable pub ending-of : ℕ → Ending
+ending-of number = record { outcome = outcome-of (number / 65536 % 256); router = number % 256; hops = number / 256 % 256 }
 
 -- ---- arriving and leaving
 

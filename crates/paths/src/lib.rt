@@ -11,8 +11,8 @@ ghost use Rattle.rules.specs.Demand1.{PathAsked};
 ghost use Rattle.tables.specs.Readings.{outline-of};
 ghost use Rattle.search.specs.Steps.{AreSets};
 ghost use Rattle.entries.specs.Entries.{entry-told};
-ghost use Rattle.paths.specs.Walks.{guide-to, rules-over, ending-after, written, ending-number, OutcomeOf, EndingOf, Arriving, Arrives, Leaving, Leaves};
-ghost use Rattle.paths.specs.Tracings.{outcome-number, number-for, Traces};
+ghost use Rattle.paths.specs.Walks.{guide-to, rules-over, ending-after, written, ending-number, ending-of, Arriving, Arrives, Leaving, Leaves};
+ghost use Rattle.paths.specs.Tracings.{outcome-number, outcome-of, number-for, Traces};
 use entries::Entry;
 use entries::STARTS_HERE;
 use entries::decide;
@@ -57,7 +57,8 @@ pub fn outcome_code(outcome: Outcome) -> u8
     }
 }
 
-// What a walk reads of one view: each router's next-hop set for the destination, and the set of those that it is linked to.
+// What is found of one view: each router's next-hop set for the destination, and the set of those that it is linked to. A walk reads the sets of both
+// views, and the links of the new one.
 struct Guide {
     sets: [u64; 64],
     near: [u64; 64],
@@ -107,18 +108,18 @@ fn visit(trace: &mut [u8; 64], hops: u8, router: u8)
     trace[hops as usize] = router;
 }
 
-// An ending as one number: the outcome's number, the router and the hops, a byte each.
+// An ending as one number: the router, the hops and the outcome's number, a byte each.
 fn number_of(ending: Ending) -> u32
     ensures { λ r. ⌜ r ≡ ending-number ending ⌝ }
 {
     let outcome = ending.outcome;
     let code = outcome_code(outcome);
-    (code as u32) + 256 * (ending.router as u32) + 65536 * (ending.hops as u32)
+    (ending.router as u32) + 256 * (ending.hops as u32) + 65536 * (code as u32)
 }
 
-// The outcome that has a number.
+// The outcome that has this number; every other number counts as lost.
 fn outcome_of(code: u8) -> Outcome
-    ensures { λ r. ⌜ OutcomeOf code r ⌝ }
+    ensures { λ r. ⌜ r ≡ outcome-of code ⌝ }
 {
     if code == 128 {
         return Outcome::Delivered;
@@ -132,15 +133,15 @@ fn outcome_of(code: u8) -> Outcome
     Outcome::Lost
 }
 
-// The ending that has a number.
+// The ending that such a number tells.
 fn ending_of(number: u32) -> Ending
-    ensures { λ r. ⌜ EndingOf number r ⌝ }
+    ensures { λ r. ⌜ r ≡ ending-of number ⌝ }
 {
-    let outcome = outcome_of((number % 256) as u8);
+    let outcome = outcome_of((number / 65536 % 256) as u8);
     Ending {
         outcome,
-        router: (number / 256 % 256) as u8,
-        hops: (number / 65536 % 256) as u8,
+        router: (number % 256) as u8,
+        hops: (number / 256 % 256) as u8,
     }
 }
 

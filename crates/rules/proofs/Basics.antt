@@ -130,7 +130,13 @@ module _ {A : Type 0} where
   All-listed P (y ∷ xs) h x (List·Memᴰ·head q) = rw q (h .0)
   All-listed P (y ∷ xs) h x (List·Memᴰ·tail m) = All-listed P xs (h .1) x m
 
-  -- of the one at a place, and of the other that stands for a place behind them
+  -- of the one at a place
+  pub All-there : (P : A → Type 0) (xs : List A) → All P xs → (k : ℕ) (other : A) → k < length xs → P (getD xs k other)
+  All-there P [] h k other l = absurd (omega arith)
+  All-there P (x ∷ xs) h zero other l = h .0
+  All-there P (x ∷ xs) h (suc k) other l = All-there P xs (h .1) k other (omega arith)
+
+  -- the same, and of the other that stands for a place behind them
   pub All-at : (P : A → Type 0) (xs : List A) (other : A) → All P xs → P other → (k : ℕ) → P (getD xs k other)
   All-at P [] other h o k = o
   All-at P (x ∷ xs) other h o zero = h .0

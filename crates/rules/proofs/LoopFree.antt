@@ -1,6 +1,6 @@
 -- Demand 3 for any permitted rules, any links that carry, and views chosen by anyone: no router twice, N − 1 hops at most, N − 1 views enough.
 -- Assumes nothing.
-use mathlib.Core.Path.{_≡_, refl, sym, _∙_, ap}
+use mathlib.Core.Path.{_≡_, refl, sym, _∙_, ap, subst}
 use mathlib.Core.Logic.{_≢_, _⊎_, inl, inr}
 use mathlib.Core.Bool.{Bool, true, false, false≢true}
 use mathlib.Core.List.{List, [], _∷_}
@@ -35,7 +35,7 @@ use Rattle.rules.specs.Paths.{
   follow,
 }
 use Rattle.rules.specs.Demand3.{Follows, delivers, discards, has-none, loses, crosses, Together, Permitted, EachHop, deciders, Loopless}
-use Rattle.rules.proofs.Basics.{pigeonhole}
+use Rattle.rules.proofs.Basics.{All-there, pigeonhole}
 use Rattle.rules.proofs.CostLaws.{Net, BothWays, Costs}
 use Rattle.rules.proofs.Weights.{net, both-ways}
 use Rattle.rules.proofs.LeastCost.{cost-laws}
@@ -246,3 +246,8 @@ module _ {old new : Table} {d : ℕ} {site : Site} (𝓣 : Together old new) (�
         enough discarded e = undelivered (λ q. omega (arith, ap outcome-code (sym e ∙ q)))
         enough unrouted e = undelivered (λ q. omega (arith, ap outcome-code (sym e ∙ q)))
         enough lost e = undelivered (λ q. omega (arith, ap outcome-code (sym e ∙ q)))
+
+-- the packet ended at one of the routers
+pub ends-inside : {routers s : ℕ} {site : Site} {choice : Choice} {trip : Trip} → Loopless routers s site choice trip → trip .router < routers
+ends-inside {routers} {trip = trip} l =
+    subst (λ i. i < routers) (l .to-its-end) (All-there (λ i. i < routers) (trip .trace) (l .all-routers) (trip .hops) 255 (omega (arith, l .counted)))

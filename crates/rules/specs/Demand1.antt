@@ -256,7 +256,7 @@ pub record Lengths (bytes : List ℕ) : Type 0 where
 abbrev pub LengthsHold : Type 0
 LengthsHold = (bytes : List ℕ) → Lengths bytes
 
--- no question's refusal has its place behind that
+-- no refusal of a question has a place above 3,079
 abbrev pub PlaceNear : {A : Type 0} → Answer A → Type 0
 PlaceNear a = a .refusal .place ≤ 3079
 

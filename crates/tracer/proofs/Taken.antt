@@ -9,9 +9,8 @@ use Prim.Native.Nat.{ℕ, _+_, _*_, _%_, _^_, _≤_, _<_}
 use native.Mathlib.Nat.{mul-le-mul}
 use native.Mathlib.Decide.{ℕ-discrete}
 use native.Mathlib.Omega.{arith}
-use lib.ListN.{getD}
 use borrow.Author.Tests.{eq-eqb, ne-eqb, ltb-true}
-use Rattle.rules.specs.Words.{_<?_, every, All, below}
+use Rattle.rules.specs.Words.{_<?_, every, below}
 use Rattle.rules.specs.Layout.{Table, Name, Obeys}
 use Rattle.rules.specs.Table.{says}
 use Rattle.rules.specs.NextHops.{has, members, chosen, size}
@@ -29,6 +28,7 @@ use Rattle.rules.proofs.Entries.{entries-forward}
 use Rattle.rules.proofs.Outputs.{length-interfaces}
 use Rattle.rules.proofs.Values.{values-given}
 use Rattle.rules.proofs.Names.{parts-are-names, parts-of-two-are-names, named-answered, parts-fit}
+use Rattle.rules.proofs.LoopFree.{ends-inside}
 use Rattle.rules.proofs.Answered.{demand3-for-questions}
 use Rattle.tracer.specs.Packed.{refusal-bytes, packed, alone, reading-bytes, pairing-bytes, chosen-bytes, ending-bytes, named-bytes, name-bytes}
 use Rattle.tracer.specs.Taken.{byte-in, two-bytes-in, taken, reading-in, pairing-in, byte-alone, two-bytes-alone, chosen-in, ending-in, named-in, part-in, TakenApart}
@@ -159,18 +159,14 @@ code-fits t o i j d = go (entry t i j d) refl
     go (forward k) q = omega (arith, entries-forward t o i j d k q .1, o .few-routers)
 
 -- where a packet of n routers' tables ended
-trip-again : (n : ℕ) (t : Trip) → n ≤ 64 → t .hops < n → getD (t .trace) (t .hops) 255 ≡ t .router → All (λ i. i < n) (t .trace)
-    → Again ending-bytes ending-in (ending t)
-trip-again n t s h e a = ending-again (ending t) (code-of (t .outcome)) (subst (λ r. r < 256) e at-end) (omega arith)
+trip-again : (n : ℕ) (t : Trip) → n ≤ 64 → t .hops < n → t .router < n → Again ending-bytes ending-in (ending t)
+trip-again n t s h i = ending-again (ending t) (code-of (t .outcome)) (omega arith) (omega arith)
   where
     code-of : (o : Outcome) → outcome-code o < 256
     code-of delivered = omega arith
     code-of discarded = omega arith
     code-of unrouted = omega arith
     code-of lost = omega arith
-
-    at-end : getD (t .trace) (t .hops) 255 < 256
-    at-end = All-at (λ i. i < 256) (t .trace) 255 (All-map (λ i l. omega arith) (t .trace) a) (omega arith) (t .hops)
 
 -- ---- names
 
@@ -281,7 +277,7 @@ taken-apart = record {
       let l = demand3-for-questions old new s d views trace e .demand3 .general .loopless in
       subst (Again ending-bytes ending-in) (sym (values-given .of-path old new s d views trace e))
       (trip-again (says new .routers) (trip-of old new s d views)
-      (few new (answered-exactly .of-path old new s d views trace .0 e .together .new-accepted)) (l .few) (l .to-its-end) (l .all-routers)));
+      (few new (answered-exactly .of-path old new s d views trace .0 e .together .new-accepted)) (l .few) (ends-inside l)));
   of-name = λ table i.
       again (question-refusals .of-name table i) _ _ (omega arith) refl (places-near .of-name table i) refl
       (λ e. named-again (name-part table i) _ (parts-fit .of-name table i) (one-or-none table i e));

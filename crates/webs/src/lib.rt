@@ -15,6 +15,7 @@ pub struct Web {
     pub weights: [u16; 4096],
 }
 
+// No weight from any router to any other.
 fn no_weights() -> [u16; 4096]
     ensures { λ r. ⌜ r ≡ replicate 4096 0 ⌝ }
 {
@@ -45,7 +46,7 @@ fn lay_ends(near: &mut [u64; 64], next: NextLink)
         a,
         b,
         weight,
-        behind,
+        behind: _,
     } = next
     else {
         return;
@@ -67,7 +68,7 @@ fn lay_weight(weights: &mut [u16; 4096], next: NextLink)
         a,
         b,
         weight,
-        behind,
+        behind: _,
     } = next
     else {
         return;

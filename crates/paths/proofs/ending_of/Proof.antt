@@ -1,7 +1,7 @@
 -- `paths::ending_of` meets its contract.
 -- Assumes nothing.
 use borrow.Author.Needs.{needs}
-use Rattle.paths.proofs.Numbers.{taken-apart}
+use Rattle.paths.proofs.Numbers.{told-by}
 use Rattle.paths.proofs.ending_of.Statement.{statement}
 use Rattle.paths.proofs.ending_of.Tie as tie
 
@@ -11,14 +11,14 @@ cast-outcome-of c = search needs
 outcome-of-requires : tie.Need-outcome-of-requires
 outcome-of-requires c κs = search needs
 
-cast-t4 : tie.Need-cast-t4
-cast-t4 c = search needs
+cast-t5 : tie.Need-cast-t5
+cast-t5 c = search needs
 
-cast-t8 : tie.Need-cast-t8
-cast-t8 c = search needs
+cast-t7 : tie.Need-cast-t7
+cast-t7 c = search needs
 
 returns : tie.Need-returns
-returns c = taken-apart _ _ (c .outcome-of .ensures)
+returns c = told-by _ _ (c .outcome-of .ensures)
 
 pub ending-of-spec : {M : Type 1} → statement M
-ending-of-spec = tie.close (tie.spec cast-outcome-of outcome-of-requires cast-t4 cast-t8 returns)
+ending-of-spec = tie.close (tie.spec cast-outcome-of outcome-of-requires cast-t5 cast-t7 returns)
