@@ -305,7 +305,7 @@ below-at n k other h = ap (λ l. getD l k other) (sym (map-same (below n))) ∙ 
 -- ---- the numbers below n that pass a test
 
 module _ (p : ℕ → Bool) where
-  those-more : (n : ℕ) → those p (below (suc n)) ≡ those p (below n) ++ pick (p n) (n ∷ []) []
+  pub those-more : (n : ℕ) → those p (below (suc n)) ≡ those p (below n) ++ pick (p n) (n ∷ []) []
   unfolding below those
   those-more n = those-append p (below n) (n ∷ [])
 

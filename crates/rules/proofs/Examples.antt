@@ -31,7 +31,7 @@ use Rattle.rules.specs.NextHops.{has, members, set-of, chosen, leads, ne
 use Rattle.rules.specs.Entries.{entry-by, rules-of, entry, cell, row, interfaces}
 use Rattle.rules.specs.Paths.{listed, follow, journey, site-of}
 use Rattle.rules.specs.Questions.{table-refusal, answer, afterwards, read-answer, interfaces-answer, interfaces-after, few-views, bad-views, trip-of, path-answer, trace-after}
-use Rattle.rules.specs.Listing.{digits, joined-by-commas, cost-and-next, line, lines, header, refusal-line, listing-lines, listing}
+use Rattle.rules.specs.Listing.{digits, joined-by-commas, cost-and-next, line-of, line, lines-from, lines, header, refusal-line, listing-lines, listing}
 use Rattle.rules.specs.Examples.{reply, BenchExamples, InterfaceExample, ListingExamples}
 
 pub bench-examples : BenchExamples
@@ -43,5 +43,5 @@ unfolding interfaces-after interfaces-answer interfaces row cell entry table-ref
 interface-example = refl
 
 pub listing-examples : ListingExamples
-unfolding listing listing-lines lines line header refusal-line cost-and-next joined-by-commas digits read judge judge-from step bad-tag known-tag length-allowed contents-fit routers-fit name-fits name-byte link-fits key keep not-above too-many table-of routers-of those every below weight-in direct best cost has set-of leads next-hops flatten text-from members
+unfolding listing listing-lines lines lines-from line line-of header refusal-line cost-and-next joined-by-commas digits read judge judge-from step bad-tag known-tag length-allowed contents-fit routers-fit name-fits name-byte link-fits key keep not-above too-many table-of routers-of those every below weight-in direct best cost has set-of leads next-hops flatten text-from members
 listing-examples = refl

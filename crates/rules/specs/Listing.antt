@@ -27,19 +27,24 @@ joined-by-commas (x ∷ []) = x
 joined-by-commas (x ∷ y ∷ ys) = x ++ text "," ++ joined-by-commas (y ∷ ys)
 
 -- cost and set members; no route prints `-` twice
-unfoldable pub cost-and-next : Table → ℕ → ℕ → List ℕ
-cost-and-next t i d =
-    pick (cost t i d <? no-cost)
-    (decimal (cost t i d) ++ text " " ++ joined-by-commas (map decimal (members (next-hops t i d))))
-    (text "- -")
+unfoldable pub cost-and-next : ℕ → ℕ → List ℕ
+cost-and-next c set =
+    pick (c <? no-cost) (decimal c ++ text " " ++ joined-by-commas (map decimal (members set))) (text "- -")
 
 -- router, destination, cost, set members
-unfoldable pub line : Table → ℕ → ℕ → List ℕ
-line t i d = ended-line (decimal i ++ text " " ++ decimal d ++ text " " ++ cost-and-next t i d)
+unfoldable pub line-of : ℕ → ℕ → ℕ → ℕ → List ℕ
+line-of i d c set = ended-line (decimal i ++ text " " ++ decimal d ++ text " " ++ cost-and-next c set)
 
--- rising router, rising destination other than the router
+unfoldable pub line : Table → ℕ → ℕ → List ℕ
+line t i d = line-of i d (cost t i d) (next-hops t i d)
+
+-- rising destination other than the router
+unfoldable pub lines-from : Table → ℕ → List (List ℕ)
+lines-from t i = map (line t i) (those (λ d. not (d =? i)) (below (t .routers)))
+
+-- rising router
 unfoldable pub lines : Table → List (List ℕ)
-lines t = flatten (map (λ i. map (line t i) (those (λ d. not (d =? i)) (below (t .routers)))) (below (t .routers)))
+lines t = flatten (map (lines-from t) (below (t .routers)))
 
 unfoldable pub header : List ℕ
 header = ended-line (text "router dest cost next")

@@ -1,0 +1,7 @@
+pub mod Pages
+pub mod Decimals
+pub mod Commas
+pub mod Lines
+pub mod Others
+pub mod Listings
+pub mod Settled
