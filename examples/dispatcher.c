@@ -3,7 +3,8 @@
  *   dispatcher OLD NEW VIEWS
  *
  * OLD and NEW are files with link tables. VIEWS has an o (old view) or an n (new view) for each router that decides, in
- * order; its last letter holds for all later ones.
+ * order; its last letter holds for all later ones. The exit status is 0 if all was answered and printed, 1 if the tables
+ * are refused, 2 if something could not be read or written.
  */
 #include <stdio.h>
 #include <string.h>
@@ -16,7 +17,15 @@ struct table {
     size_t length;
 };
 
-/* The paths of each outcome. */
+/* A site while it changes over. */
+struct site {
+    struct table old_table, new_table;
+    unsigned routers;
+    char names[TRACER_MOST_ROUTERS][20]; /* of each cabinet, with a 0 behind it */
+    uint8_t views[TRACER_MOST_ROUTERS];
+};
+
+/* How many paths had each outcome. */
 struct tally {
     unsigned delivered, discarded, no_route, lost;
 };
@@ -24,20 +33,22 @@ struct tally {
 static int read_table(const char *file, struct table *table)
 {
     FILE *in = fopen(file, "rb");
-    if (in == NULL) {
-        fprintf(stderr, "dispatcher: %s cannot be read\n", file);
-        return 0;
+    int good = in != NULL;
+    if (good) {
+        table->length = fread(table->bytes, 1, sizeof table->bytes, in);
+        good = !ferror(in);
+        fclose(in);
     }
-    table->length = fread(table->bytes, 1, sizeof table->bytes, in);
-    fclose(in);
-    return 1;
+    if (!good)
+        fprintf(stderr, "dispatcher: %s cannot be read\n", file);
+    return good;
 }
 
-/* The view list that VIEWS says; 0 if it says none. */
+/* The view list that the letters say. */
 static int read_views(const char *letters, uint8_t views[TRACER_MOST_ROUTERS])
 {
     size_t given = strlen(letters);
-    if (given == 0 || given > TRACER_MOST_ROUTERS || strspn(letters, "on") != given) {
+    if (given == 0 || strspn(letters, "on") != given) {
         fprintf(stderr, "dispatcher: the views are a row of o and n\n");
         return 0;
     }
@@ -46,27 +57,27 @@ static int read_views(const char *letters, uint8_t views[TRACER_MOST_ROUTERS])
     return 1;
 }
 
-/* A refusal as the dispatcher reads it. */
+/* The name of each cabinet, or its number where it has none. */
+static void find_names(struct site *site)
+{
+    const struct table *old = &site->old_table, *new_ = &site->new_table;
+    for (unsigned router = 0; router < site->routers; router++) {
+        char *name = site->names[router];
+        uint64_t answer = tracer_name(old->bytes, old->length, new_->bytes, new_->length, router);
+        if (tracer_is_named(answer))
+            memcpy(name, tracer_name_bytes(answer, old->bytes, new_->bytes), tracer_name_length(answer));
+        else
+            snprintf(name, sizeof site->names[router], "cabinet %u", router);
+    }
+}
+
 static void print_refusal(uint64_t answer)
 {
     unsigned number = tracer_number(answer);
-    fprintf(stderr, "dispatcher: refused by %u: %s", number, tracer_refusal_words(number));
+    fprintf(stderr, "dispatcher: refused by %u", number);
     if (number < TRACER_TOO_DIFFERENT)
-        fprintf(stderr, ", in the %s table at byte %u", tracer_table(answer) == TRACER_NEW ? "new" : "old", (unsigned)tracer_place(answer));
-    fprintf(stderr, "\n");
-}
-
-/* A cabinet's name, or its number where it has none. */
-static const char *name_of(const struct table *old, const struct table *new_, unsigned router, char text[17])
-{
-    uint64_t answer = tracer_name(old->bytes, old->length, new_->bytes, new_->length, router);
-    if (tracer_is_named(answer)) {
-        memcpy(text, tracer_name_bytes(answer, old->bytes, new_->bytes), tracer_name_length(answer));
-        text[tracer_name_length(answer)] = '\0';
-    } else {
-        sprintf(text, "cabinet %u", router);
-    }
-    return text;
+        fprintf(stderr, " in the %s table at byte %u", tracer_table(answer) == TRACER_NEW ? "new" : "old", tracer_place(answer));
+    fprintf(stderr, ": %s\n", tracer_refusal_words(number));
 }
 
 static void count(struct tally *tally, unsigned outcome)
@@ -79,51 +90,54 @@ static void count(struct tally *tally, unsigned outcome)
     }
 }
 
-/* One packet: its line for the desk. */
-static void print_path(const struct table *old, const struct table *new_, unsigned source, unsigned destination,
-                       const uint8_t views[TRACER_MOST_ROUTERS], struct tally *tally)
+/* One packet's line for the desk. It cannot be refused: the tables go together, source and destination are routers of
+ * theirs, and the view list and the trace are long enough for every table. */
+static void print_path(const struct site *site, unsigned source, unsigned destination, struct tally *tally)
 {
     uint8_t trace[TRACER_MOST_ROUTERS];
-    char name[17];
-    uint64_t answer = tracer_path(old->bytes, old->length, new_->bytes, new_->length, source, destination,
-                                  views, TRACER_MOST_ROUTERS, trace, sizeof trace);
-    if (tracer_number(answer) != 0) {
-        print_refusal(answer);
-        return;
-    }
+    uint64_t answer = tracer_path(site->old_table.bytes, site->old_table.length, site->new_table.bytes, site->new_table.length,
+                                  source, destination, site->views, sizeof site->views, trace, sizeof trace);
     count(tally, tracer_outcome(answer));
-    printf("%-16s ", name_of(old, new_, source, name));
-    printf("%-16s ", name_of(old, new_, destination, name));
-    printf("%-9s  %4u  ", tracer_outcome_words(tracer_outcome(answer)), tracer_hops(answer));
+    printf("%-16s %-16s %-9s  %4u  ", site->names[source], site->names[destination],
+           tracer_outcome_words(tracer_outcome(answer)), tracer_hops(answer));
     for (unsigned n = 0; n <= tracer_hops(answer); n++)
-        printf("%s%s", n == 0 ? "" : " > ", name_of(old, new_, trace[n], name));
+        printf("%s%s", n == 0 ? "" : " > ", site->names[trace[n]]);
     printf("\n");
 }
 
-int main(int count_of_words, char **words)
+static void print_paths(const struct site *site)
 {
-    static struct table old, new_;
-    uint8_t views[TRACER_MOST_ROUTERS];
     struct tally tally = {0, 0, 0, 0};
-    if (count_of_words != 4) {
+    printf("%-16s %-16s %-9s  %4s  %s\n", "from", "to", "outcome", "hops", "way");
+    for (unsigned source = 0; source < site->routers; source++)
+        for (unsigned destination = 0; destination < site->routers; destination++)
+            if (source != destination)
+                print_path(site, source, destination, &tally);
+    printf("%u delivered, %u discarded, %u no route, %u lost\n", tally.delivered, tally.discarded, tally.no_route, tally.lost);
+}
+
+int main(int arguments, char **words)
+{
+    static struct site site;
+    if (arguments != 4) {
         fprintf(stderr, "usage: dispatcher OLD NEW VIEWS\n");
         return 2;
     }
-    if (!read_table(words[1], &old) || !read_table(words[2], &new_) || !read_views(words[3], views))
+    if (!read_table(words[1], &site.old_table) || !read_table(words[2], &site.new_table) || !read_views(words[3], site.views))
         return 2;
 
-    uint64_t pair = tracer_pair(old.bytes, old.length, new_.bytes, new_.length);
+    uint64_t pair = tracer_pair(site.old_table.bytes, site.old_table.length, site.new_table.bytes, site.new_table.length);
     if (tracer_number(pair) != 0) {
         print_refusal(pair);
         return 1;
     }
-    unsigned routers = tracer_routers(pair), differing = tracer_differing(pair);
-    printf("%u cabinets, %u link%s changed, views %s\n", routers, differing, differing == 1 ? "" : "s", words[3]);
-    printf("%-16s %-16s %-9s  %4s  %s\n", "from", "to", "outcome", "hops", "way");
-    for (unsigned source = 0; source < routers; source++)
-        for (unsigned destination = 0; destination < routers; destination++)
-            if (source != destination)
-                print_path(&old, &new_, source, destination, views, &tally);
-    printf("%u delivered, %u discarded, %u no route, %u lost\n", tally.delivered, tally.discarded, tally.no_route, tally.lost);
+    site.routers = tracer_routers(pair);
+    find_names(&site);
+    printf("cabinets %u, links changed %u, views %s\n", site.routers, tracer_differing(pair), words[3]);
+    print_paths(&site);
+    if (fflush(stdout) != 0 || ferror(stdout)) {
+        fprintf(stderr, "dispatcher: not all could be written\n");
+        return 2;
+    }
     return 0;
 }

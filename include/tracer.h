@@ -31,8 +31,10 @@ enum tracer_refusals {
     TRACER_NOT_ABOVE = 5,      /* name or link not above the one before it */
     TRACER_TOO_MANY_LINKS = 6, /* a 257th link */
     TRACER_BYTES_BEHIND = 7,   /* bytes behind the end record */
-    TRACER_TOO_DIFFERENT = 8,  /* two tables with different N, or more than one link that is in only one table or has another weight */
-    TRACER_BAD_ROUTER = 9,     /* a router number not below N; a previous hop that is neither 255 nor a router below N, or equals the router asked about */
+    TRACER_TOO_DIFFERENT = 8,  /* two tables with different N, or more than one link that is in only one table or has another
+                                * weight */
+    TRACER_BAD_ROUTER = 9,     /* a router number not below N; a previous hop that is neither 255 nor a router below N, or
+                                * equals the router asked about */
     TRACER_SHORT_OUTPUT = 10,  /* a lent output too short */
     TRACER_BAD_VIEWS = 11      /* a view list shorter than N - 1, or a byte other than 0 and 1 among its first N - 1 */
 };
@@ -46,13 +48,13 @@ enum tracer_codes {
     TRACER_LOST = 132     /* of a path only: the link taken is not in the new table */
 };
 
-/* Bytes of a view list. */
+/* Bytes of a view list; also which of two tables is meant. */
 enum tracer_views { TRACER_OLD = 0, TRACER_NEW = 1 };
 
 /* Sizes that are always enough. */
 enum tracer_sizes {
-    TRACER_MOST_ROUTERS = 64,        /* costs, sets, bytes of a trace; one more than view bytes */
-    TRACER_MOST_TABLE_BYTES = 3079,  /* a longer table is refused */
+    TRACER_MOST_ROUTERS = 64,        /* costs, sets, bytes of a trace; one more than bytes of a view list */
+    TRACER_MOST_TABLE_BYTES = 3079,  /* a longer table is refused, by what stands in its first 4,096 bytes */
     TRACER_MOST_INTERFACES = 65 * 64 /* bytes of an interface table */
 };
 
@@ -68,11 +70,12 @@ uint64_t tracer_read(const uint8_t *table, size_t table_length);
 /* May these be an old and a new table? Answers N (tracer_routers) and how many links differ, 0 or 1 (tracer_differing). */
 uint64_t tracer_pair(const uint8_t *old_table, size_t old_length, const uint8_t *new_table, size_t new_length);
 
-/* What does a router do with a packet from that previous hop, or TRACER_STARTS_HERE, to that destination? Answers the code (tracer_code). */
+/* What does a router do with a packet from that previous hop, or TRACER_STARTS_HERE, to that destination? Answers the code
+ * (tracer_code). */
 uint64_t tracer_entry(const uint8_t *table, size_t table_length, uint64_t router, uint64_t previous, uint64_t destination);
 
-/* The router's full interface table, (N + 1) x N bytes: row 255 first, then previous hops 0 to N - 1, a column for each destination.
- * Answers how many bytes are written (tracer_written); later bytes stay. */
+/* The router's full interface table, (N + 1) x N bytes: row 255 first, then previous hops 0 to N - 1, a column for each
+ * destination. Answers how many bytes are written (tracer_written); later bytes stay. */
 uint64_t tracer_interfaces(const uint8_t *table, size_t table_length, uint64_t router, uint8_t *out, size_t out_length);
 
 /* For each router its cost to the destination and its next-hop set, bit k for router k. Answers N (tracer_routers), which is
@@ -92,25 +95,28 @@ uint64_t tracer_path(const uint8_t *old_table, size_t old_length, const uint8_t 
 
 /* Where the name of a router stands: in the new table, or else in the old. Answers whether it has one (tracer_is_named), in
  * which table (tracer_name_table), at which place (tracer_name_place) and its length (tracer_name_length). */
-uint64_t tracer_name(const uint8_t *old_table, size_t old_length, const uint8_t *new_table, size_t new_length, uint64_t router);
+uint64_t tracer_name(const uint8_t *old_table, size_t old_length, const uint8_t *new_table, size_t new_length,
+                     uint64_t router);
 
 /* The same with one table. */
 uint64_t tracer_name_in(const uint8_t *table, size_t table_length, uint64_t router);
 
 /* ---- taking an answer apart */
 
-/* Byte k of an answer; byte 0 is the lowest. */
+/* Byte k of an answer, k from 0 (the lowest) to 7. */
 static inline unsigned tracer_byte(uint64_t answer, int k) { return (unsigned)(answer >> (8 * k) & 0xFF); }
 
-/* Bytes k + 1 and k as one number. */
+/* Bytes k + 1 and k as one number, k from 0 to 6. */
 static inline unsigned tracer_two_bytes(uint64_t answer, int k) { return (unsigned)(answer >> (8 * k) & 0xFFFF); }
 
-/* Of every question but tracer_chosen: the refusal's number, 0 if the question is answered; then table and place. */
+/* Of every question but tracer_chosen: the number that refuses it, 0 if it is answered. */
 static inline unsigned tracer_number(uint64_t answer) { return tracer_byte(answer, 7); }
-static inline unsigned tracer_table(uint64_t answer) { return tracer_byte(answer, 6); }
-static inline uint64_t tracer_place(uint64_t answer) { return answer & 0xFFFFFFFFFFFFu; }
 
-/* The helpers below are of an answered question. Where it was refused they give numbers without meaning. */
+/* Of a refused question only: which table, TRACER_OLD (or the only one) or TRACER_NEW, and the place in it, at most 3,079. */
+static inline unsigned tracer_table(uint64_t answer) { return tracer_byte(answer, 6); }
+static inline unsigned tracer_place(uint64_t answer) { return (unsigned)(answer & 0xFFFFFFFFFFFFu); }
+
+/* Of an answered question only, down to tracer_name_bytes: of a refused one these numbers have no meaning. */
 
 /* Of tracer_read, tracer_pair and tracer_fill: N. */
 static inline unsigned tracer_routers(uint64_t answer) { return tracer_byte(answer, 0); }
@@ -137,14 +143,16 @@ static inline unsigned tracer_outcome(uint64_t answer) { return tracer_byte(answ
 static inline unsigned tracer_hops(uint64_t answer) { return tracer_byte(answer, 1); }
 static inline unsigned tracer_router(uint64_t answer) { return tracer_byte(answer, 0); }
 
-/* Of tracer_name and tracer_name_in: 1 if the router has a name, else 0 (and the next three are 0); the table that it is in,
- * TRACER_OLD (or the only one) or TRACER_NEW; the place of its first byte there; its length, 1 to 16. */
+/* Of tracer_name and tracer_name_in: 1 if the router has a name; else, and of a refusal too, 0. */
 static inline unsigned tracer_is_named(uint64_t answer) { return tracer_byte(answer, 3); }
+
+/* Of a name only: the table that it is in, TRACER_OLD (or the only one) or TRACER_NEW; the place of its first byte there; its
+ * length, 1 to 16. */
 static inline unsigned tracer_name_table(uint64_t answer) { return tracer_byte(answer, 2); }
 static inline unsigned tracer_name_place(uint64_t answer) { return tracer_two_bytes(answer, 4); }
 static inline unsigned tracer_name_length(uint64_t answer) { return tracer_byte(answer, 1); }
 
-/* The very bytes of a name inside the caller's table; of a router without a name the start of the old table. */
+/* Of a name only: its very bytes inside the caller's table, with no 0 behind them. With one table, give it twice. */
 static inline const uint8_t *tracer_name_bytes(uint64_t answer, const uint8_t *old_table, const uint8_t *new_table)
 {
     return (tracer_name_table(answer) == TRACER_NEW ? new_table : old_table) + tracer_name_place(answer);
@@ -152,22 +160,25 @@ static inline const uint8_t *tracer_name_bytes(uint64_t answer, const uint8_t *o
 
 /* ---- words */
 
-/* A refusal's number in words. */
+/* A refusal's number in document 01's words. */
 static inline const char *tracer_refusal_words(unsigned number)
 {
     switch (number) {
     case 0: return "answered";
-    case TRACER_CUT: return "a record is cut";
-    case TRACER_BAD_TAG: return "a tag is unknown or out of order";
-    case TRACER_BAD_LENGTH: return "a length is not allowed for the tag";
+    case TRACER_CUT: return "fewer than 3 bytes remain for a header, or the contents run past the end";
+    case TRACER_BAD_TAG: return "unknown tag, first tag not 0x01, a second 0x01, or a tag below the one before";
+    case TRACER_BAD_LENGTH: return "a length not allowed for the tag";
     case TRACER_OUT_OF_RANGE: return "N, router, weight or name byte out of range, or a not below b";
     case TRACER_NOT_ABOVE: return "name or link not above the one before it";
     case TRACER_TOO_MANY_LINKS: return "a 257th link";
     case TRACER_BYTES_BEHIND: return "bytes behind the end record";
-    case TRACER_TOO_DIFFERENT: return "different numbers of routers, or more than one link that differs";
-    case TRACER_BAD_ROUTER: return "a router number not below N, or a bad previous hop";
+    case TRACER_TOO_DIFFERENT:
+        return "two tables with different N, or more than one link that is in only one table or has another weight";
+    case TRACER_BAD_ROUTER:
+        return "a router number not below N; a previous hop that is neither 255 nor a router below N, "
+               "or equals the router asked about";
     case TRACER_SHORT_OUTPUT: return "a lent output too short";
-    case TRACER_BAD_VIEWS: return "a view list too short, or a byte other than 0 and 1 in it";
+    case TRACER_BAD_VIEWS: return "a view list shorter than N - 1, or a byte other than 0 and 1 among its first N - 1";
     default: return "no such number";
     }
 }

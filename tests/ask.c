@@ -103,8 +103,8 @@ static int print_refusal(char letter, uint64_t answer)
         printf(" 0 0 0");
         return 1;
     }
-    printf(" %u %u %u", number, tracer_table(answer), (unsigned)tracer_place(answer));
-    is_stray = answer != ((uint64_t)number << 56 | (uint64_t)tracer_table(answer) << 48 | tracer_place(answer));
+    printf(" %u %u %u", number, tracer_table(answer), tracer_place(answer));
+    is_stray = (answer & 0xFFFFFFFF0000u) != 0; /* no place is above 3,079 */
     return 0;
 }
 

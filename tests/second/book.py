@@ -56,7 +56,7 @@ class Book:
         return fields
 
     def refused(self, number, table, place, letter, **rest):
-        """Asks a question that has to be refused in just this way."""
+        """Asks a question that has to be refused in just this way; number 0 is no refusal."""
         fields = self.ask(letter, **rest)
         expected = [number, table, place]
         check(fields[:3] == expected, (letter, rest, fields[:3], expected))

@@ -69,13 +69,16 @@ def counts_line(title, *counts):
 
 
 def make(folder):
-    """Writes the four files and says how many questions of each kind they hold."""
+    """Writes the four files, says how many questions of each kind they hold, and writes the paper's tables."""
     asked, listed = questions_and_answers(), listings()
     os.makedirs(folder, exist_ok=True)
     write(folder, "questions", asked.questions)
     write(folder, "answers", asked.answers)
     write(folder, "listing-questions", listed.questions)
     write(folder, "listing-answers", listed.answers)
+    for name in paper.TABLES:
+        write(folder, name + ".table", paper.TABLES[name])
+    write(folder, "four-routers.listing", paper.LISTING.encode("ascii"))
     print(counts_line("questions", asked.letters) + "; " + counts_line("listing", listed.letters))
     print(counts_line("answered 0 or refused by number", asked.refusals))
     print(counts_line("outcomes of paths", asked.outcomes))

@@ -71,7 +71,7 @@ def bad_routers(n):
 
 
 def bad_router_numbers(book):
-    """9: each number that is a router, in each question."""
+    """9: a number that is no router, in each place of each question."""
     for n in (1, 5, 64):
         data = table(n, line(n), {n - 1: b"last"})
         book.hold(old=data, new=data)

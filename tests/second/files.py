@@ -10,7 +10,7 @@ MOST_LOAD, MOST_BYTES, MOST_PLACES = 8192, 4200, 80
 
 
 def check(truth, what="a case is not what its group says"):
-    """Stops the making of the files; unlike `assert` it never vanishes with its question."""
+    """Stops the making of the files. Unlike `assert` it is never left out, nor a question asked in it."""
     if not truth:
         raise AssertionError(what)
 

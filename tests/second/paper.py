@@ -18,6 +18,8 @@ NEW_RING = table(7, {(0, 1): 1, (0, 5): 1, (1, 4): 1, (2, 3): 1, (2, 5): 1, (3, 
 TWO_LINKED = table(2, {(0, 1): 1})
 TWO_UNLINKED = table(2, {})
 FOUR_ROUTERS = table(4, {(0, 1): 1, (0, 2): 1, (1, 3): 1, (2, 3): 1})
+TABLES = {"triangle-old": OLD_TRIANGLE, "triangle-new": NEW_TRIANGLE, "ring-old": OLD_RING,
+          "ring-new": NEW_RING, "four-routers": FOUR_ROUTERS}
 
 # Mark, bytes, and the answer: (N, links) or the refusal's (number, table, place).
 READINGS = [

@@ -177,29 +177,34 @@ fn blank() -> [u8; 16384] {
     [0; 16384]
 }
 
-// Prints the lines of an accepted table: a search from each router, and its lines as one page.
-fn print_lines(table: &[u8], t: Outline) {
+// Prints the lines of an accepted table: a search from each router, and its lines as one page. This and the next two answer whether all was written.
+fn print_lines(table: &[u8], t: Outline) -> bool {
     let mut page = blank();
     let length = header(&mut page);
-    io::write_all(STDOUT_FILENO, &page[..length]);
+    if !io::write_all(STDOUT_FILENO, &page[..length]) {
+        return false;
+    }
     let web = web_of(table, t);
     let mut router = 0;
     while router < t.routers {
         let length = lines_from(&mut page, all_from(web, router), t.routers, router);
-        io::write_all(STDOUT_FILENO, &page[..length]);
+        if !io::write_all(STDOUT_FILENO, &page[..length]) {
+            return false;
+        }
         router += 1;
     }
+    true
 }
 
 // Prints a refusal.
-fn print_refusal(number: u8, place: usize) {
+fn print_refusal(number: u8, place: usize) -> bool {
     let mut page = blank();
     let length = refusal_line(&mut page, number, place);
-    io::write_all(STDOUT_FILENO, &page[..length]);
+    io::write_all(STDOUT_FILENO, &page[..length])
 }
 
 // Prints the listing of a table.
-pub fn print_listing(table: &[u8]) {
+pub fn print_listing(table: &[u8]) -> bool {
     let reading = read(table);
     match reading {
         Reading::Accepted(t) => print_lines(table, t),

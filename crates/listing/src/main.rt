@@ -1,8 +1,12 @@
-// Prints the listing of the table on standard input, of which it reads at most 4,096 bytes.
+// Prints the listing of the table on standard input.
+use libc::STDERR_FILENO;
 use libc::STDIN_FILENO;
 
 fn main() {
-    let mut buffer = io::buffer();
-    let n = io::read_full(STDIN_FILENO, &mut buffer);
-    lines::print_listing(&buffer[..n]);
+    let mut table = io::buffer();
+    // at most 4,096 bytes: a longer table is refused by then with the same number and place
+    let length = io::read_full(STDIN_FILENO, &mut table);
+    if !lines::print_listing(&table[..length]) {
+        io::write_all(STDERR_FILENO, b"listing: not all could be written\n");
+    }
 }

@@ -27,6 +27,9 @@ slice-aggregate-write-all c = part-long (c .before .header .ensures)
 write-all-requires : tie.Need-write-all-requires Inv-loop μ-loop
 write-all-requires c κs = search needs
 
+returns : tie.Need-returns Inv-loop μ-loop
+returns c = search needs
+
 web-of-requires : tie.Need-web-of-requires Inv-loop μ-loop
 web-of-requires c κs = search needs
 
@@ -48,6 +51,9 @@ slice-aggregate-write-all-2 c = part-long (c .before .lines-from .ensures)
 write-all-requires-2 : tie.Need-write-all-requires-2 Inv-loop μ-loop
 write-all-requires-2 c κs = search needs
 
+returns-2 : tie.Need-returns-2 Inv-loop μ-loop
+returns-2 c = search needs
+
 add-router : tie.Need-add-router Inv-loop μ-loop
 add-router c = search needs
 
@@ -57,8 +63,8 @@ loop-less c = search needs
 loop-again : tie.Need-loop-again Inv-loop μ-loop
 loop-again c = search needs
 
-returns : tie.Need-returns Inv-loop μ-loop
-returns c = search needs
+returns-3 : tie.Need-returns-3 Inv-loop μ-loop
+returns-3 c = search needs
 
 pub print-lines-spec : {M : Type 1} → statement M
 print-lines-spec =
@@ -71,6 +77,7 @@ print-lines-spec =
     array-share-prefix-page
     slice-aggregate-write-all
     write-all-requires
+    returns
     web-of-requires
     loop-holds
     all-from-requires
@@ -78,7 +85,8 @@ print-lines-spec =
     array-share-prefix-page-2
     slice-aggregate-write-all-2
     write-all-requires-2
+    returns-2
     add-router
     loop-less
     loop-again
-    returns)
+    returns-3)
