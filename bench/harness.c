@@ -6,29 +6,16 @@
  *   harness time ROUNDS                 nanoseconds of each job on each input, the least of all rounds, sides in turn
  *   harness run SIDE JOB INPUT TIMES    the job so many times, for a counter of instructions
  */
-#include "plain.h"
-#if __STDC_HOSTED__
 #include <stdio.h>
 #include <stdlib.h>
+#include <string.h>
 #include <time.h>
-#else
-struct timespec {
-    long tv_sec, tv_nsec;
-};
-#define CLOCK_MONOTONIC 1
-int clock_gettime(int, struct timespec *);
-int memcmp(const void *, const void *, size_t);
-int strcmp(const char *, const char *);
-int printf(const char *, ...);
-int atoi(const char *);
-_Noreturn void exit(int);
-#endif
 
-#define N 64             /* routers of every input that is timed */
-#define MOST_BYTES 3079  /* of a table */
-#define SPARE 8          /* places behind each output, which must stay as they were */
+#include "plain.h"
+#include "tracer.h"
 
-enum { DELIVERED = 128, DISCARDED = 129, NO_ROUTE = 130, LOST = 132 };
+#define N 64    /* routers of every input that is timed */
+#define SPARE 8 /* places behind each output, which must stay as they were */
 
 /* Moves the code of this and all later files by so many bytes. */
 #ifdef LAYOUT
@@ -38,11 +25,6 @@ __asm__(SKIP(LAYOUT));
 #endif
 
 /* ---- the two sides */
-
-uint64_t tracer_read(const uint8_t *, size_t);
-uint64_t tracer_fill(const uint8_t *, size_t, uint64_t, uint32_t *, size_t, uint64_t *, size_t);
-uint64_t tracer_interfaces(const uint8_t *, size_t, uint64_t, uint8_t *, size_t);
-uint64_t tracer_path(const uint8_t *, size_t, const uint8_t *, size_t, uint64_t, uint64_t, const uint8_t *, size_t, uint8_t *, size_t);
 
 struct side {
     const char *name;
@@ -73,7 +55,7 @@ static unsigned chance(unsigned below)
 
 struct bytes {
     size_t length;
-    uint8_t at[MOST_BYTES + 64]; /* a damaged table may be longer than a good one */
+    uint8_t at[TRACER_MOST_TABLE_BYTES + 64]; /* a damaged table may be longer than a good one */
 };
 
 /* A table before it is bytes: weights above the diagonal (0: no link), lengths of names (0: none). */
@@ -310,7 +292,7 @@ struct reply {
 };
 
 static struct reply blank, replies[2];
-static unsigned asked, seen[12], ended[LOST + 1]; /* questions; path answers by refusal, 0 for none, and by outcome */
+static unsigned asked, seen[12], ended[TRACER_LOST + 1]; /* questions; path answers by refusal, 0 for none, and by outcome */
 
 static void show_table(const char *what, const struct bytes *t)
 {
@@ -533,13 +515,13 @@ static const struct path_example {
     unsigned outcome, router, hops;
     uint8_t trace[5];
 } path_examples[] = {
-    {&triangle, &triangle_new, 1, 2, {1, 0}, DISCARDED, 0, 1, {1, 0}},
-    {&triangle, &triangle_new, 1, 2, {1, 1}, DELIVERED, 2, 2, {1, 0, 2}},
-    {&triangle, &triangle_new, 0, 2, {0, 0}, LOST, 1, 1, {0, 1}},
-    {&seven, &seven_new, 0, 6, {0, 0, 0, 1, 1, 1}, DISCARDED, 3, 3, {0, 1, 4, 3}},
-    {&seven, &seven_new, 3, 6, {1, 1, 1, 1, 1, 1}, DELIVERED, 6, 4, {3, 2, 5, 0, 6}},
-    {&triangle, &triangle_new, 2, 2, {0, 1}, DELIVERED, 2, 0, {2}},
-    {&two, &two_new, 0, 1, {1}, NO_ROUTE, 0, 0, {0}},
+    {&triangle, &triangle_new, 1, 2, {1, 0}, TRACER_DISCARDED, 0, 1, {1, 0}},
+    {&triangle, &triangle_new, 1, 2, {1, 1}, TRACER_DELIVERED, 2, 2, {1, 0, 2}},
+    {&triangle, &triangle_new, 0, 2, {0, 0}, TRACER_LOST, 1, 1, {0, 1}},
+    {&seven, &seven_new, 0, 6, {0, 0, 0, 1, 1, 1}, TRACER_DISCARDED, 3, 3, {0, 1, 4, 3}},
+    {&seven, &seven_new, 3, 6, {1, 1, 1, 1, 1, 1}, TRACER_DELIVERED, 6, 4, {3, 2, 5, 0, 6}},
+    {&triangle, &triangle_new, 2, 2, {0, 1}, TRACER_DELIVERED, 2, 0, {2}},
+    {&two, &two_new, 0, 1, {1}, TRACER_NO_ROUTE, 0, 0, {0}},
 };
 
 static const struct read_example {
@@ -601,7 +583,7 @@ static void check(void)
     for (unsigned i = 0; i < 12; i++)
         if (seen[i] == 0)
             fail("a number was answered to no path", 0);
-    if (!ended[DELIVERED] || !ended[DISCARDED] || !ended[NO_ROUTE] || !ended[LOST])
+    if (!ended[TRACER_DELIVERED] || !ended[TRACER_DISCARDED] || !ended[TRACER_NO_ROUTE] || !ended[TRACER_LOST])
         fail("an outcome was answered to no path", 0);
     printf("%u questions of each kind, answered alike by both sides to the last byte\n", asked);
 }

@@ -1,4 +1,6 @@
 /* Four of the library's questions in plain C, reading, fill, interface table and path: neighbour lists, a 64-bit open set, nothing allocated. It shares no code with the library. */
+#include <string.h>
+
 #include "plain.h"
 
 enum { ROUTERS = 0x01, NAME = 0x02, LINK = 0x04, END = 0x7F };

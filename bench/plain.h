@@ -2,20 +2,8 @@
 #ifndef PLAIN_H
 #define PLAIN_H
 
-/* The kit's clang comes without headers, so there what is used of them is declared here. */
-#if __STDC_HOSTED__
 #include <stddef.h>
 #include <stdint.h>
-#include <string.h>
-#else
-typedef __SIZE_TYPE__ size_t;
-typedef __UINT8_TYPE__ uint8_t;
-typedef __UINT16_TYPE__ uint16_t;
-typedef __UINT32_TYPE__ uint32_t;
-typedef __UINT64_TYPE__ uint64_t;
-void *memcpy(void *, const void *, size_t);
-void *memset(void *, int, size_t);
-#endif
 
 uint64_t plain_read(const uint8_t *table, size_t length);
 uint64_t plain_fill(const uint8_t *table, size_t length, uint64_t destination,

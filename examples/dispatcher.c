@@ -64,10 +64,12 @@ static void find_names(struct site *site)
     for (unsigned router = 0; router < site->routers; router++) {
         char *name = site->names[router];
         uint64_t answer = tracer_name(old->bytes, old->length, new_->bytes, new_->length, router);
-        if (tracer_is_named(answer))
+        if (tracer_is_named(answer)) {
             memcpy(name, tracer_name_bytes(answer, old->bytes, new_->bytes), tracer_name_length(answer));
-        else
+            name[tracer_name_length(answer)] = '\0';
+        } else {
             snprintf(name, sizeof site->names[router], "cabinet %u", router);
+        }
     }
 }
 

@@ -1,7 +1,12 @@
 /* The path tracer for C control programs: link tables, entries, interface tables and paths through mixed views.
  *
+ * A link table tells N, the number of a site's routers, which are 0 to N - 1, names of some of them, and the links between
+ * them with their weights. While a new table is taken over, some routers still use the old one: each has an old view or a
+ * new view of the site.
+ *
  * Every function answers one question by one 64-bit number, and every input is answered or refused. The helpers below
- * take the number apart; docs/C-SIDE.md has it byte by byte. Link with libtracer.a, which `rt staticlib tracer` makes.
+ * take the number apart; docs/C-SIDE.md has it byte by byte, and a table's bytes. Link with libtracer.a, which
+ * `rt staticlib tracer` makes.
  *
  * A table, a view list and an output are each a pointer and the number of elements. The caller keeps:
  *   - a pointer is not null, also where there are no elements, and aligned as C aligns its type;
@@ -22,7 +27,9 @@ extern "C" {
 
 /* ---- numbers */
 
-/* What refuses a question. 1 to 7 come with a table and a place; from 8 upwards both are 0. */
+/* What refuses a question, each in these cases only. 1 to 7 come with a table and a place; from 8 upwards both are 0. The
+ * first that applies is given: the old (or only) table's, the new table's, then 8, 9, 11, 10; in a table its first bad
+ * record's. */
 enum tracer_refusals {
     TRACER_CUT = 1,            /* fewer than 3 bytes remain for a header, or the contents run past the end */
     TRACER_BAD_TAG = 2,        /* unknown tag, first tag not 0x01, a second 0x01, or a tag below the one before */
@@ -75,26 +82,28 @@ uint64_t tracer_pair(const uint8_t *old_table, size_t old_length, const uint8_t 
 uint64_t tracer_entry(const uint8_t *table, size_t table_length, uint64_t router, uint64_t previous, uint64_t destination);
 
 /* The router's full interface table, (N + 1) x N bytes: row 255 first, then previous hops 0 to N - 1, a column for each
- * destination. Answers how many bytes are written (tracer_written); later bytes stay. */
+ * destination. The output needs so many bytes. Answers how many are written (tracer_written); later bytes stay. */
 uint64_t tracer_interfaces(const uint8_t *table, size_t table_length, uint64_t router, uint8_t *out, size_t out_length);
 
-/* For each router its cost to the destination and its next-hop set, bit k for router k. Answers N (tracer_routers), which is
- * how many places of each output are written; later places stay. */
+/* For each router its cost to the destination, or TRACER_NO_COST, and its next-hop set, bit k for router k. Each output needs
+ * N places. Answers N (tracer_routers), which is how many places of each are written; later places stay. */
 uint64_t tracer_fill(const uint8_t *table, size_t table_length, uint64_t destination,
                      uint32_t *costs, size_t costs_length, uint64_t *sets, size_t sets_length);
 
 /* The chosen hop of a set, or TRACER_NO_HOP (tracer_hop), and how many members it has (tracer_members). Never refused. */
 uint64_t tracer_chosen(uint64_t set);
 
-/* Follows one packet. Byte n of the view list says which view the n-th router that decides uses. Answers the outcome
- * (tracer_outcome), the router where the packet ended (tracer_router) and the hops (tracer_hops). The trace needs N bytes
- * and gets the visited routers, hops + 1 of them; later bytes stay. */
+/* Follows one packet. Byte n of the view list, TRACER_OLD or TRACER_NEW, says which view the n-th router that decides uses,
+ * counted from 0; the destination reads none, so the list needs N - 1 bytes. Answers the outcome (tracer_outcome), the
+ * router where the packet ended (tracer_router) and the hops (tracer_hops). The trace needs N bytes and gets the visited
+ * routers, hops + 1 of them; later bytes stay. */
 uint64_t tracer_path(const uint8_t *old_table, size_t old_length, const uint8_t *new_table, size_t new_length,
                      uint64_t source, uint64_t destination,
                      const uint8_t *views, size_t views_length, uint8_t *trace, size_t trace_length);
 
 /* Where the name of a router stands: in the new table, or else in the old. Answers whether it has one (tracer_is_named), in
- * which table (tracer_name_table), at which place (tracer_name_place) and its length (tracer_name_length). */
+ * which table (tracer_name_table), at which place (tracer_name_place) and its length (tracer_name_length). The tables may
+ * differ at will (8 is not tested); 9 is given unless the router is below both N. */
 uint64_t tracer_name(const uint8_t *old_table, size_t old_length, const uint8_t *new_table, size_t new_length,
                      uint64_t router);
 
@@ -116,7 +125,8 @@ static inline unsigned tracer_number(uint64_t answer) { return tracer_byte(answe
 static inline unsigned tracer_table(uint64_t answer) { return tracer_byte(answer, 6); }
 static inline unsigned tracer_place(uint64_t answer) { return (unsigned)(answer & 0xFFFFFFFFFFFFu); }
 
-/* Of an answered question only, down to tracer_name_bytes: of a refused one these numbers have no meaning. */
+/* Of an answered question only, down to tracer_name_bytes: of a refused one these numbers have no meaning, but for
+ * tracer_is_named. */
 
 /* Of tracer_read, tracer_pair and tracer_fill: N. */
 static inline unsigned tracer_routers(uint64_t answer) { return tracer_byte(answer, 0); }

@@ -44,7 +44,7 @@ static int next_question(struct question *q)
     q->x = number_at(head + 8, 8);
     q->y = number_at(head + 16, 8);
     q->z = number_at(head + 24, 8);
-    return q->load <= MOST_LOAD && q->room <= MOST_BYTES && q->second_room <= MOST_PLACES;
+    return q->load <= MOST_LOAD && q->room <= (q->letter == 'f' ? MOST_PLACES : MOST_BYTES) && q->second_room <= MOST_PLACES;
 }
 
 static void hold(struct load *load, size_t size)

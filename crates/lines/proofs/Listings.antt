@@ -25,7 +25,7 @@ use Rattle.webs.specs.Webs.{web-weight, web-at}
 use Rattle.search.specs.Search.{found-from}
 use Rattle.search.specs.declared.Found.{Found}
 use Rattle.search.proofs.OfTable.{found-costs, found-sets}
-use Rattle.lines.specs.Lines.{lines-found}
+use Rattle.lines.specs.Lines.{lines-found, lines-over}
 use Rattle.lines.specs.Listings.{page-of, pieces, PrintsTheListing}
 use Rattle.lines.proofs.Others.{flatten-append}
 
@@ -61,7 +61,7 @@ module _ (table : List ℕ) (a : IsAccepted table) (t : Outline) (q : t ≡ outl
       ∙ value-at (next-hops (says table) i) 64 d 0 h
 
   pub own-page : (i : ℕ) → page-of table t i ≡ flatten (lines-from (says table) i)
-  unfolding page-of lines-found lines-from line
+  unfolding page-of lines-over lines-found lines-from line
   own-page i =
       ap (λ m. flatten (map by-search (those other (below m)))) (omega (arith, few-routers table a t q))
       ∙ ap flatten (map-same by-search (line (says table) i) (those other (below (t .routers))) same)

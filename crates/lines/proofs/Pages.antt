@@ -70,6 +70,10 @@ put-first {l} {l′} {a} p h = record {
 }
 
 module _ {l l′ a : List ℕ} {r : ℕ} (w : Writes l a r l′) where
+  -- the same bytes, said otherwise
+  pub written-as : {b : List ℕ} → a ≡ b → Writes l b r l′
+  written-as e = rw (← e) w
+
   pub has-room : r ≤ length l′
   has-room = omega (arith, w .counted, ap length (w .written) ∙ length-append a (drop (length a) l))
 

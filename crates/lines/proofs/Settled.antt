@@ -5,8 +5,9 @@ use mathlib.Core.List.{List}
 use Prim.Native.Nat.{ℕ}
 use Rattle.rules.specs.Promises.{Settles}
 use Rattle.rules.specs.Listing.{header, refusal-line}
-use Rattle.search.specs.declared.Found.{Found}
-use Rattle.lines.specs.Lines.{Writes, lines-found}
+use Rattle.webs.specs.Webs.{web-weight}
+use Rattle.webs.specs.declared.Web.{Web}
+use Rattle.lines.specs.Lines.{Writes, lines-over}
 
 -- the count, and the page afterwards
 writing-settled : (page bytes : List ℕ) → Settles (λ (both : ℕ × List ℕ). Writes page bytes (both .0) (both .1))
@@ -18,6 +19,6 @@ header-settled page = writing-settled page header
 pub refusal-line-settled : (page : List ℕ) (number place : ℕ) → Settles (λ (both : ℕ × List ℕ). Writes page (refusal-line number place) (both .0) (both .1))
 refusal-line-settled page number place = writing-settled page (refusal-line number place)
 
-pub lines-from-settled : (page : List ℕ) (found : Found) (routers router : ℕ)
-    → Settles (λ (both : ℕ × List ℕ). Writes page (lines-found found routers router) (both .0) (both .1))
-lines-from-settled page found routers router = writing-settled page (lines-found found routers router)
+pub router-lines-settled : (page : List ℕ) (web : Web) (routers router : ℕ)
+    → Settles (λ (both : ℕ × List ℕ). Writes page (lines-over (web-weight web) routers router) (both .0) (both .1))
+router-lines-settled page web routers router = writing-settled page (lines-over (web-weight web) routers router)

@@ -9,6 +9,7 @@ use Rattle.rules.specs.Words.{_=?_, pick, those, below}
 use Rattle.rules.specs.Costs.{no-cost}
 use Rattle.rules.specs.Listing.{line-of}
 use Rattle.search.specs.declared.Found.{Found}
+use Rattle.search.specs.Search.{found-from}
 
 -- the bytes are put at a place of the page, and the answer is the place behind them
 pub record Puts (page : List ℕ) (at : ℕ) (bytes : List ℕ) (r : ℕ) (page′ : List ℕ) : Type 0 where
@@ -29,3 +30,7 @@ unfoldable pub lines-found : Found → ℕ → ℕ → List ℕ
 lines-found found n i =
     flatten
     (map (λ d. line-of i d (getD (found .costs) d no-cost) (getD (found .sets) d 0)) (those (λ d. not (d =? i)) (below (min n 64))))
+
+-- the same by a search from it over these weights
+unfoldable pub lines-over : (ℕ → ℕ → ℕ) → ℕ → ℕ → List ℕ
+lines-over w n i = lines-found (found-from w i) n i

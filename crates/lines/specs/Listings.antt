@@ -9,12 +9,11 @@ use Rattle.tables.specs.declared.Outline.{Outline}
 use Rattle.tables.specs.declared.Reading.{Reading}
 use Rattle.tables.specs.declared.Reading.the-variants.{Accepted, Refused}
 use Rattle.webs.specs.Webs.{web-weight, web-at}
-use Rattle.search.specs.Search.{found-from}
-use Rattle.lines.specs.Lines.{lines-found}
+use Rattle.lines.specs.Lines.{lines-over}
 
 -- a router's page: its lines, by a search from it over the table's web
 unfoldable pub page-of : List ℕ → Outline → ℕ → List ℕ
-page-of table t router = lines-found (found-from (web-weight (web-at table t)) router) (t .routers) router
+page-of table t router = lines-over (web-weight (web-at table t)) (t .routers) router
 
 -- what is written once the table is read: the header and a page for each router, or the refusal alone
 unfoldable pub pieces : List ℕ → Reading → List (List ℕ)

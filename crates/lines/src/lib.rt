@@ -9,7 +9,8 @@ ghost use lib.ListN.{length};
 ghost use denote.Ref.{now};
 ghost use Rattle.rules.specs.Listing.{decimal, joined-by-commas, cost-and-next, line-of, header, refusal-line};
 ghost use Rattle.rules.specs.NextHops.{members};
-ghost use Rattle.lines.specs.Lines.{Puts, Writes, line-to-other, lines-found};
+ghost use Rattle.webs.specs.Webs.{web-weight};
+ghost use Rattle.lines.specs.Lines.{Puts, Writes, line-to-other, lines-found, lines-over};
 use libc::STDOUT_FILENO;
 use search::Found;
 use search::NO_COST;
@@ -17,6 +18,7 @@ use search::all_from;
 use tables::Outline;
 use tables::Reading;
 use tables::read;
+use webs::Web;
 use webs::web_of;
 
 // A byte at a place. This and each function that puts something answers the place behind it.
@@ -130,6 +132,30 @@ fn put_line_to_other(
     put_line(page, at, router, destination, cost, set)
 }
 
+// How many of so many routers count: 64 at most.
+fn counted(routers: u8) -> usize
+    ensures { λ r. ⌜ r ≡ min routers 64 ⌝ }
+{
+    if 64 < routers {
+        return 64;
+    }
+    routers as usize
+}
+
+// One router's lines to all others of so many routers, of which the first 64 count, by what was found from it.
+fn lines_from(page: &mut [u8; 16384], found: Found, routers: u8, router: u8) -> usize
+    ensures { λ r. ⌜ Writes (now (page .entry)) (lines-found found routers router) r (now (page .exit)) ⌝ }
+{
+    let all = counted(routers);
+    let mut end = 0;
+    let mut d = 0;
+    while d < all {
+        end = put_line_to_other(page, end, router, d as u8, found.costs[d], found.sets[d]);
+        d += 1;
+    }
+    end
+}
+
 // The first line of every listing. This and the next two answer how many bytes they write.
 pub fn header(page: &mut [u8; 16384]) -> usize
     ensures { λ r. ⌜ Writes (now (page .entry)) header r (now (page .exit)) ⌝ }
@@ -148,28 +174,11 @@ pub fn refusal_line(page: &mut [u8; 16384], number: u8, place: usize) -> usize
     put(page, behind_place, b'\n')
 }
 
-// How many of so many routers count: 64 at most.
-fn counted(routers: u8) -> usize
-    ensures { λ r. ⌜ r ≡ min routers 64 ⌝ }
+// One router's lines, by a search from it over a web.
+pub fn router_lines(page: &mut [u8; 16384], web: Web, routers: u8, router: u8) -> usize
+    ensures { λ r. ⌜ Writes (now (page .entry)) (lines-over (web-weight web) routers router) r (now (page .exit)) ⌝ }
 {
-    if 64 < routers {
-        return 64;
-    }
-    routers as usize
-}
-
-// One router's lines to all others of so many routers, of which the first 64 count, by what was found from it.
-pub fn lines_from(page: &mut [u8; 16384], found: Found, routers: u8, router: u8) -> usize
-    ensures { λ r. ⌜ Writes (now (page .entry)) (lines-found found routers router) r (now (page .exit)) ⌝ }
-{
-    let all = counted(routers);
-    let mut end = 0;
-    let mut d = 0;
-    while d < all {
-        end = put_line_to_other(page, end, router, d as u8, found.costs[d], found.sets[d]);
-        d += 1;
-    }
-    end
+    lines_from(page, all_from(web, router), routers, router)
 }
 
 // A page with nothing on it.
@@ -177,7 +186,7 @@ fn blank() -> [u8; 16384] {
     [0; 16384]
 }
 
-// Prints the lines of an accepted table: a search from each router, and its lines as one page. This and the next two answer whether all was written.
+// Prints the lines of an accepted table, a page for each router. This and the next two answer whether all was written.
 fn print_lines(table: &[u8], t: Outline) -> bool {
     let mut page = blank();
     let length = header(&mut page);
@@ -187,7 +196,7 @@ fn print_lines(table: &[u8], t: Outline) -> bool {
     let web = web_of(table, t);
     let mut router = 0;
     while router < t.routers {
-        let length = lines_from(&mut page, all_from(web, router), t.routers, router);
+        let length = router_lines(&mut page, web, t.routers, router);
         if !io::write_all(STDOUT_FILENO, &page[..length]) {
             return false;
         }

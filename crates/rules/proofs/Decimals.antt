@@ -47,7 +47,7 @@ pub decimal-more : (x : ℕ) → x < 2 ^ 64 → 10 ≤ x → decimal x ≡ decim
 decimal-more x b h =
     more-digits 19 x h ∙ ap (λ ds. ds ++ ((48 + x % 10) ∷ [])) (sym (digits-enough 18 (x / 10) (omega arith)))
 
--- below 10 ^ n there are at most n digits
+-- below 10 ^ (n + 1) there are at most n + 1 digits
 pub few-digits : (most n x : ℕ) → x < 10 ^ suc n → length (digits most x) ≤ suc n
 few-digits zero n x h = omega (arith, ap length (no-digits x))
 few-digits (suc most) zero x h = omega (arith, ap length (one-digit most x h))

@@ -36,17 +36,14 @@ web-of-requires c κs = search needs
 loop-holds : tie.Need-loop-holds Inv-loop μ-loop
 loop-holds c = search needs
 
-all-from-requires : tie.Need-all-from-requires Inv-loop μ-loop
-all-from-requires c κs = search needs
-
-lines-from-requires : tie.Need-lines-from-requires Inv-loop μ-loop
-lines-from-requires c κs = search needs
+router-lines-requires : tie.Need-router-lines-requires Inv-loop μ-loop
+router-lines-requires c κs = search needs
 
 array-share-prefix-page-2 : tie.Need-array-share-prefix-page-2 Inv-loop μ-loop
-array-share-prefix-page-2 c = has-room (c .lines-from .ensures)
+array-share-prefix-page-2 c = has-room (c .router-lines .ensures)
 
 slice-aggregate-write-all-2 : tie.Need-slice-aggregate-write-all-2 Inv-loop μ-loop
-slice-aggregate-write-all-2 c = part-long (c .before .lines-from .ensures)
+slice-aggregate-write-all-2 c = part-long (c .before .router-lines .ensures)
 
 write-all-requires-2 : tie.Need-write-all-requires-2 Inv-loop μ-loop
 write-all-requires-2 c κs = search needs
@@ -80,8 +77,7 @@ print-lines-spec =
     returns
     web-of-requires
     loop-holds
-    all-from-requires
-    lines-from-requires
+    router-lines-requires
     array-share-prefix-page-2
     slice-aggregate-write-all-2
     write-all-requires-2

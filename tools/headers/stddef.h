@@ -1,4 +1,4 @@
-/* What the tests use of C's header of this name, for the kit's compiler, which has no headers of its own. */
+/* What is used here of C's header of this name, for the kit's compiler, which has no headers of its own. */
 #ifndef STDDEF_H
 #define STDDEF_H
 typedef __SIZE_TYPE__ size_t;

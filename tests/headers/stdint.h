@@ -1,7 +1,0 @@
-/* What the tests use of C's header of this name, for the kit's compiler, which has no headers of its own. */
-#ifndef STDINT_H
-#define STDINT_H
-typedef __UINT8_TYPE__ uint8_t;
-typedef __UINT32_TYPE__ uint32_t;
-typedef __UINT64_TYPE__ uint64_t;
-#endif
