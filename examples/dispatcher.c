@@ -1,4 +1,4 @@
-/* The dispatcher's desk: which way a packet takes between every two cabinets while the routers change over.
+/* The dispatcher's desk: which path a packet takes between every two cabinets while the routers change over.
  *
  *   dispatcher OLD NEW VIEWS
  *
@@ -110,7 +110,7 @@ static void print_path(const struct site *site, unsigned source, unsigned destin
 static void print_paths(const struct site *site)
 {
     struct tally tally = {0, 0, 0, 0};
-    printf("%-16s %-16s %-9s  %4s  %s\n", "from", "to", "outcome", "hops", "way");
+    printf("%-16s %-16s %-9s  %4s  %s\n", "from", "to", "outcome", "hops", "path");
     for (unsigned source = 0; source < site->routers; source++)
         for (unsigned destination = 0; destination < site->routers; destination++)
             if (source != destination)

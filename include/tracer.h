@@ -121,7 +121,8 @@ static inline unsigned tracer_two_bytes(uint64_t answer, int k) { return (unsign
 /* Of every question but tracer_chosen: the number that refuses it, 0 if it is answered. */
 static inline unsigned tracer_number(uint64_t answer) { return tracer_byte(answer, 7); }
 
-/* Of a refused question only: which table, TRACER_OLD (or the only one) or TRACER_NEW, and the place in it, at most 3,079. */
+/* Of a refused question only: which table, TRACER_OLD (or the only one) or TRACER_NEW, and the place in it, at most
+ * TRACER_MOST_TABLE_BYTES. */
 static inline unsigned tracer_table(uint64_t answer) { return tracer_byte(answer, 6); }
 static inline unsigned tracer_place(uint64_t answer) { return (unsigned)(answer & 0xFFFFFFFFFFFFu); }
 

@@ -104,7 +104,7 @@ static int print_refusal(char letter, uint64_t answer)
         return 1;
     }
     printf(" %u %u %u", number, tracer_table(answer), tracer_place(answer));
-    is_stray = (answer & 0xFFFFFFFF0000u) != 0; /* no place is above 3,079 */
+    is_stray = (answer & 0xFFFFFFFF0000u) != 0; /* no place is above TRACER_MOST_TABLE_BYTES */
     return 0;
 }
 

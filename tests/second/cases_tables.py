@@ -3,7 +3,7 @@
 import model
 import questions
 from files import check
-from tables import (STOP, WEIGHTS, Numbers, all_pairs, any_weight, complete, ends, grid, head,
+from tables import (LONGEST, STOP, WEIGHTS, Numbers, all_pairs, any_weight, complete, ends, grid, head,
                     line, link, ones, parts_site, random_names, random_site, ring, small, star,
                     table, tree_site, two_sided)
 
@@ -87,7 +87,7 @@ def tables_of_64_routers(book):
         ask_some(book, numbers, table(64, links), fills=2, interface_tables=1)
     longest = table(64, random_site(numbers, 64, 256, small),
                     {i: bytes([0x21 + i]) * 16 for i in range(64)})
-    check(len(longest) == 3079)
+    check(len(longest) == LONGEST)
     ask_some(book, numbers, longest, fills=2, interface_tables=1, names=8)
 
 

@@ -1,4 +1,4 @@
-"""What the dispatcher's program prints: the way of a packet between every two cabinets."""
+"""What the dispatcher's program prints: the path of a packet between every two cabinets."""
 
 import questions
 
@@ -20,7 +20,7 @@ def paths(old_data, new_data, letters):
     old, _, different = questions.pair(old_data, new_data)
     names = [cabinet(old_data, new_data, router) for router in range(old.n)]
     lines = ["cabinets %d, links changed %d, views %s" % (old.n, different, letters),
-             "%-16s %-16s %-9s  %4s  %s" % ("from", "to", "outcome", "hops", "way")]
+             "%-16s %-16s %-9s  %4s  %s" % ("from", "to", "outcome", "hops", "path")]
     counts = dict.fromkeys(OUTCOMES, 0)
     for source in range(old.n):
         for destination in range(old.n):
@@ -28,8 +28,8 @@ def paths(old_data, new_data, letters):
                 outcome, _, hops, trace = questions.path(
                     old_data, new_data, source, destination, view_list(letters), old.n)
                 counts[outcome] += 1
-                way = " > ".join(names[router] for router in trace)
+                path = " > ".join(names[router] for router in trace)
                 lines.append("%-16s %-16s %-9s  %4d  %s" % (
-                    names[source], names[destination], OUTCOMES[outcome], hops, way))
+                    names[source], names[destination], OUTCOMES[outcome], hops, path))
     lines.append(", ".join("%d %s" % (counts[outcome], OUTCOMES[outcome]) for outcome in OUTCOMES))
     return "".join(line + "\n" for line in lines)

@@ -5,7 +5,7 @@ import sys
 import model
 import questions
 from reading import Refusal
-from tables import head, line, link, name, table
+from tables import LONGEST, head, line, link, name, table
 
 OLD, NEW = 0, 1
 
@@ -134,10 +134,10 @@ def limits():
     yield "highest cost", model.costs(questions.read(table(64, line(64, 65535))), 63)[0], 4128705
     pairs = [(a, b) for a in range(24) for b in range(a + 1, 24)][:256]
     longest = table(64, {pair: 65535 for pair in pairs}, {i: b"~" * 16 for i in range(64)})
-    yield "longest table", (len(longest), asked(size, longest)), (3079, (64, 256))
+    yield "longest table", (len(longest), asked(size, longest)), (LONGEST, (64, 256))
     over_long = longest + b"x" * (4096 - len(longest))
-    yield "over-long listing", model.listing(over_long + b"x"), "refused 7 at 3079\n"
-    yield "stopped at 4096", model.listing(over_long), "refused 7 at 3079\n"
+    yield "over-long listing", model.listing(over_long + b"x"), "refused 7 at %d\n" % LONGEST
+    yield "stopped at 4096", model.listing(over_long), "refused 7 at %d\n" % LONGEST
 
 
 def names():

@@ -3,6 +3,7 @@
 from reading import END, LINK, NAME, ROUTERS
 
 MOST_WEIGHT = 65535
+LONGEST = 3079  # the bytes of the longest table
 
 
 class Numbers:

@@ -6,7 +6,7 @@ use entries::EntryAnswer;
 use interfaces::Writing;
 use names::Naming;
 use pairs::Pairing;
-use paths::Tracing;
+use paths::PathAnswer;
 use routes::Filling;
 use tables::Reading;
 
@@ -86,18 +86,18 @@ pub fn chosen(set: u64) {
     say::end();
 }
 
-pub fn tracing(old: &[u8], new: &[u8], source: u64, destination: u64, views: &[u8], room: usize) {
+pub fn path(old: &[u8], new: &[u8], source: u64, destination: u64, views: &[u8], room: usize) {
     let mut array = arrays::bytes();
     let behind = 8 + at_most(room, 4200);
     let answer = paths::path(old, new, source, destination, views, &mut array[8..behind]);
     match answer {
-        Tracing::Ended(ending) => {
+        PathAnswer::Ended(ending) => {
             let outcome = ending.outcome;
             say::answered(b't', paths::outcome_code(outcome) as u64);
             say::number(ending.router as u64);
             say::number(ending.hops as u64);
         }
-        Tracing::Refused {
+        PathAnswer::Refused {
             number,
             table,
             place,

@@ -1,52 +1,50 @@
--- Every promise of this crate allows one answer: the entry that is told, or the numbers, tell all cases apart.
+-- Every promise of this crate allows one answer: each case is had again from the entry that it tells, or from its numbers.
 -- Assumes nothing.
 use mathlib.Core.Path.{_≡_, refl, sym, _∙_, ap}
-use mathlib.Core.List.{List}
 use Prim.Native.Nat.{ℕ}
-use Rattle.rules.specs.Entries.{Entry, deliver, discard, no-route, forward, entry-by, code}
+use Rattle.rules.specs.Words.{_=?_, pick}
+use Rattle.rules.specs.Entries.{Entry, deliver, discard, no-route, forward}
+use Rattle.rules.specs.Answers.{Answer}
+use Rattle.rules.specs.EntryQuestion.{EntryInputs, entry-asked}
 use Rattle.rules.specs.Promises.{Settles}
-use Rattle.rules.proofs.Uniqueness.{equations-settle, value-settled}
+use Rattle.rules.proofs.Uniqueness.{value-settled, equations-settle, numbers-settle, refused-again}
 use Rattle.entries.specs.declared.Entry.{Entry as EntryHere}
 use Rattle.entries.specs.declared.Entry.the-variants.{Deliver, Discard, NoRoute, Forward}
 use Rattle.entries.specs.declared.EntryAnswer.{EntryAnswer}
 use Rattle.entries.specs.declared.EntryAnswer.the-variants.{Given, Refused}
-use Rattle.entries.specs.Entries.{entry-told, rules-by, entry-numbers, Own, Enters}
+use Rattle.entries.specs.Entries.{entry-told, entry-numbers, Decides, Codes, Own, Enters}
 
 -- ---- one entry
 
--- the case that tells an entry
-case-of : Entry → EntryHere
-case-of deliver = Deliver
-case-of discard = Discard
-case-of no-route = NoRoute
-case-of (forward k) = Forward k
+entry-from : Entry → EntryHere
+entry-from deliver = Deliver
+entry-from discard = Discard
+entry-from no-route = NoRoute
+entry-from (forward k) = Forward k
 
-case-told : (x : EntryHere) → case-of (entry-told x) ≡ x
-unfolding case-of entry-told
-case-told Deliver = refl
-case-told Discard = refl
-case-told NoRoute = refl
-case-told (Forward k) = refl
+entry-again : (x : EntryHere) → entry-from (entry-told x) ≡ x
+unfolding entry-from entry-told
+entry-again Deliver = refl
+entry-again Discard = refl
+entry-again NoRoute = refl
+entry-again (Forward k) = refl
 
-pub entry-apart : (x y : EntryHere) → entry-told x ≡ entry-told y → x ≡ y
-entry-apart x y e = sym (case-told x) ∙ ap case-of e ∙ case-told y
+pub decide-settled : (set i j d : ℕ) → Settles (Decides set i j d)
+decide-settled set i j d = equations-settle _ _ entry-told entry-from entry-again _
 
-pub decide-settled : (set i j d : ℕ) → Settles (λ r. entry-told r ≡ entry-by (rules-by set) i j d)
-decide-settled set i j d = equations-settle _ _ entry-told entry-apart _
-
-pub code-settled : (e : EntryHere) → Settles (λ r. r ≡ code (entry-told e))
+pub code-settled : (e : EntryHere) → Settles (Codes e)
 code-settled e = value-settled _
 
--- ---- the entry question
+-- ---- the entry question; an entry that is given is the one asked for
 
-module _ (table : List ℕ) (i j d : ℕ) where
-  -- entries that are the table's own, and refusals with a number, are told apart by their numbers
-  pub entering-apart : (x y : EntryAnswer) → Own table i j d x → Own table i j d y → entry-numbers x ≡ entry-numbers y → x ≡ y
-  unfolding entry-numbers
-  entering-apart (Given e) (Given f) p q s = ap Given (entry-apart e f (p ∙ sym q))
-  entering-apart (Given e) (Refused number place) p q s = absurd (q (sym (ap (λ a. a .refusal .number) s)))
-  entering-apart (Refused number place) (Given f) p q s = absurd (p (ap (λ a. a .refusal .number) s))
-  entering-apart (Refused number place) (Refused number′ place′) p q s = λ z. Refused (s z .refusal .number) (s z .refusal .place)
+module _ (q : EntryInputs) where
+  answer-from : Answer ℕ → EntryAnswer
+  answer-from a = pick (a .refusal .number =? 0) (Given (entry-from (entry-asked q))) (Refused (a .refusal .number) (a .refusal .place))
 
-  pub entry-of-settled : Settles (λ r. Enters table i j d r)
-  entry-of-settled x y p q = entering-apart x y (p .1) (q .1) (p .0 ∙ sym (q .0))
+  answer-again : (x : EntryAnswer) → Own q x → answer-from (entry-numbers x) ≡ x
+  unfolding answer-from entry-numbers
+  answer-again (Given e) own = ap Given (ap entry-from (sym own) ∙ entry-again e)
+  answer-again (Refused number place) own = refused-again _ _ _ own
+
+  pub entry-of-settled : Settles (Enters q)
+  entry-of-settled = numbers-settle _ _ entry-numbers (Own q) answer-from answer-again _

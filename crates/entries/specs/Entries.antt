@@ -1,12 +1,11 @@
--- An entry by the next-hop set alone, and what the entry question answers, in document 01's numbers.
+-- An entry by the next-hop set alone, its code, and what the entry question answers, in document 01's numbers.
 use mathlib.Core.Path.{_≡_}
-use mathlib.Core.List.{List}
 use Prim.Native.Nat.{ℕ}
 use Rattle.rules.specs.Words.{_<?_}
-use Rattle.rules.specs.Table.{says}
 use Rattle.rules.specs.NextHops.{has, chosen}
-use Rattle.rules.specs.Entries.{Entry, deliver, discard, no-route, forward, Rules, entry, code}
-use Rattle.rules.specs.Questions.{Answer, answered, refused-with, IsNumber, entry-answer}
+use Rattle.rules.specs.Entries.{Entry, deliver, discard, no-route, forward, Rules, entry-by, code}
+use Rattle.rules.specs.Answers.{Answer, answered, refused-with, IsNumber}
+use Rattle.rules.specs.EntryQuestion.{EntryInputs, entry-asked, entry-answer}
 use Rattle.entries.specs.declared.Entry.{Entry as EntryHere}
 use Rattle.entries.specs.declared.Entry.the-variants.{Deliver, Discard, NoRoute, Forward}
 use Rattle.entries.specs.declared.EntryAnswer.{EntryAnswer}
@@ -25,6 +24,14 @@ entry-told (Forward k) = forward k
 unfoldable pub rules-by : ℕ → Rules
 rules-by set = record { has-route = λ i. 0 <? set; discards = λ i j. has set j; hop = λ i j. chosen set }
 
+-- r is the entry of router i for previous hop j and destination d, by its next-hop set for d
+abbrev pub Decides : ℕ → ℕ → ℕ → ℕ → EntryHere → Type 0
+Decides set i j d r = entry-told r ≡ entry-by (rules-by set) i j d
+
+-- r is the code of an entry
+abbrev pub Codes : EntryHere → ℕ → Type 0
+Codes e r = r ≡ code (entry-told e)
+
 -- ---- the entry question
 
 -- the numbers of each case
@@ -32,11 +39,11 @@ unfoldable pub entry-numbers : EntryAnswer → Answer ℕ
 entry-numbers (Given e) = answered (code (entry-told e))
 entry-numbers (Refused number place) = refused-with 0 number 0 place
 
--- the entry is the table's own; a refusal has a number
-abbrev pub Own : List ℕ → ℕ → ℕ → ℕ → EntryAnswer → Type 0
-Own table i j d (Given e) = entry-told e ≡ entry (says table) i j d
-Own table i j d (Refused number place) = IsNumber number
+-- the entry is the one asked for; a refusal has a number
+abbrev pub Own : EntryInputs → EntryAnswer → Type 0
+Own q (Given e) = entry-told e ≡ entry-asked q
+Own q (Refused number place) = IsNumber number
 
--- r answers the entry question of router i, previous hop j, destination d
-abbrev pub Enters : List ℕ → ℕ → ℕ → ℕ → EntryAnswer → Type 0
-Enters table i j d r = (entry-numbers r ≡ entry-answer table i j d) × Own table i j d r
+-- r answers the entry question
+abbrev pub Enters : EntryInputs → EntryAnswer → Type 0
+Enters q r = (entry-numbers r ≡ entry-answer q) × Own q r

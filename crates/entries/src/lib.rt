@@ -1,12 +1,11 @@
 // What a router does with a packet: the entry by a next-hop set, its code, and the entry question.
 ghost use mathlib.Core.Path.{_≡_};
 ghost use Prim.Native.Nat.{_<_};
-ghost use Rattle.rules.specs.Table.{says};
-ghost use Rattle.rules.specs.Entries.{entry-by, entry, code};
 ghost use Rattle.rules.specs.Demand1.{IsAccepted};
-ghost use Rattle.rules.specs.Questions.{bad-numbers};
+ghost use Rattle.rules.specs.Answers.{number-in};
+ghost use Rattle.rules.specs.EntryQuestion.{entry-refusals, entry-asked};
 ghost use Rattle.tables.specs.Readings.{outline-of};
-ghost use Rattle.entries.specs.Entries.{entry-told, rules-by, Enters};
+ghost use Rattle.entries.specs.Entries.{entry-told, Decides, Codes, Enters};
 use routes::next_hops;
 use search::costs_from;
 use sets::chosen;
@@ -35,7 +34,7 @@ pub const STARTS_HERE: u8 = 255;
 
 // The entry by the router's next-hop set for the destination: the first line that applies.
 pub fn decide(set: u64, router: u8, previous: u8, destination: u8) -> Entry
-    ensures { λ r. ⌜ entry-told r ≡ entry-by (rules-by set) router previous destination ⌝ }
+    ensures { λ r. ⌜ Decides set router previous destination r ⌝ }
 {
     if router == destination {
         return Entry::Deliver;
@@ -52,7 +51,7 @@ pub fn decide(set: u64, router: u8, previous: u8, destination: u8) -> Entry
 
 // The code of an entry in an interface table.
 pub fn code(entry: Entry) -> u8
-    ensures { λ r. ⌜ r ≡ code (entry-told entry) ⌝ }
+    ensures { λ r. ⌜ Codes entry r ⌝ }
 {
     match entry {
         Entry::Deliver => 128,
@@ -62,29 +61,33 @@ pub fn code(entry: Entry) -> u8
     }
 }
 
-// 9: a router or a destination that is not below N, or a previous hop that is neither 255 nor below N, or is the router itself.
-fn numbers_are_bad(routers: u64, router: u64, previous: u64, destination: u64) -> bool
-    ensures { λ r. ⌜ r ≡ bad-numbers routers router previous destination ⌝ }
+// 9 for a router or a destination that is not below N, or a previous hop that is neither 255 nor below N, or is the router itself; 0 for none.
+fn entry_number(routers: u8, router: u64, previous: u64, destination: u64) -> u8
+    ensures { λ r. ⌜ r ≡ number-in (entry-refusals routers router previous destination) ⌝ }
 {
-    if routers <= router {
-        return true;
+    if (routers as u64) <= router {
+        return 9;
     }
-    if routers <= destination {
-        return true;
+    if (routers as u64) <= destination {
+        return 9;
     }
     if previous == router {
-        return true;
+        return 9;
     }
     if previous == (STARTS_HERE as u64) {
-        return false;
+        return 0;
     }
-    routers <= previous
+    if (routers as u64) <= previous {
+        return 9;
+    }
+    0
 }
 
 // The entry in an accepted table, by the costs to the destination and the router's next-hop set.
 fn entry_in(table: &[u8], t: Outline, router: u8, previous: u8, destination: u8) -> Entry
     requires { ⌜ IsAccepted (now table) × (t ≡ outline-of (now table)) × (destination < 64) ⌝ }
-    ensures { λ r. ⌜ entry-told r ≡ entry (says (now (table .entry))) router previous destination ⌝ }
+    ensures { λ r. ⌜ entry-told r
+        ≡ entry-asked (record { table = now (table .entry); router = router; previous = previous; destination = destination }) ⌝ }
 {
     let web = web_of(table, t);
     let costs = costs_from(web, destination);
@@ -94,16 +97,14 @@ fn entry_in(table: &[u8], t: Outline, router: u8, previous: u8, destination: u8)
 
 // The entry of a router for a previous hop (255: the packet starts here) and a destination.
 pub fn entry_of(table: &[u8], router: u64, previous: u64, destination: u64) -> EntryAnswer
-    ensures { λ r. ⌜ Enters (now (table .entry)) router previous destination r ⌝ }
+    ensures { λ r. ⌜ Enters (record { table = now (table .entry); router = router; previous = previous; destination = destination }) r ⌝ }
 {
     let reading = read(table);
     match reading {
         Reading::Accepted(t) => {
-            if numbers_are_bad(t.routers as u64, router, previous, destination) {
-                return EntryAnswer::Refused {
-                    number: 9,
-                    place: 0,
-                };
+            let number = entry_number(t.routers, router, previous, destination);
+            if number != 0 {
+                return EntryAnswer::Refused { number, place: 0 };
             }
             EntryAnswer::Given(entry_in(table, t, router as u8, previous as u8, destination as u8))
         }

@@ -4,7 +4,7 @@ use mathlib.Core.Path.{_≡_, refl, sym, _∙_, ap}
 use mathlib.Core.Logic.{_≢_, inl}
 use mathlib.Core.Bool.{Bool, true, false}
 use mathlib.Core.List.{List, _∷_, _++_, map, flatten}
-use Prim.Native.Nat.{ℕ, zero, suc, _+_, _*_, _^_, _≤_, _<_}
+use Prim.Native.Nat.{ℕ, zero, suc, _+_, _^_, _≤_, _<_}
 use native.Mathlib.Numerals.{add-one}
 use native.Mathlib.Decide.{ℕ-discrete, decLt}
 use native.Mathlib.Omega.{arith}
@@ -19,24 +19,24 @@ use Rattle.rules.specs.Table.{says}
 use Rattle.rules.specs.NextHops.{has, chosen, next-hops}
 use Rattle.rules.specs.Entries.{starts-here, entry-by, entry, code, cell, row, interfaces}
 use Rattle.rules.specs.Demand1.{IsAccepted}
+use Rattle.rules.specs.InterfacesQuestion.{cells}
 use Rattle.rules.proofs.Acceptance.{obeys}
 use Rattle.rules.proofs.PlaceByPlace.{Filled, all-of-filled}
 use Rattle.rules.proofs.Basics.{values-same, value-behind, neither, pick-t, pick-f, value-at}
 use Rattle.rules.proofs.Sets.{has-below, empty-sets, sets-fit}
 use Rattle.tables.specs.Readings.{outline-of}
 use Rattle.tables.specs.declared.Outline.{Outline}
-use Rattle.tables.proofs.Asked.{own-routers, few-routers}
+use Rattle.tables.proofs.Asked.{own-routers}
 use Rattle.sets.proofs.Members.{nobody}
 use Rattle.sets.proofs.Bits.{has-joined}
 use Rattle.entries.specs.declared.Entry.{Entry}
-use Rattle.entries.specs.Entries.{entry-told, rules-by}
+use Rattle.entries.specs.Entries.{entry-told, rules-by, Decides, Codes}
 use Rattle.entries.proofs.Entries.{delivers, cut-off, drops, sends, by-set}
 use Rattle.interfaces.specs.Interfaces.{code-by, start-codes, code-from, cell-from, members-of, rows}
 
 -- ---- row 255
 
-pub start-code : (sets : List ℕ) (i d : ℕ) (e : Entry) (v : ℕ) → entry-told e ≡ entry-by (rules-by (getD sets d 0)) i starts-here d → v ≡ code (entry-told e)
-    → v ≡ code-by sets i starts-here d
+pub start-code : (sets : List ℕ) (i d : ℕ) (e : Entry) (v : ℕ) → Decides (getD sets d 0) i starts-here d e → Codes e v → v ≡ code-by sets i starts-here d
 unfolding code-by
 start-code sets i d e v p q = q ∙ ap code p
 
@@ -75,7 +75,7 @@ whole-members sets members d e h l =
 
 module _ (sets codes : List ℕ) (i : ℕ) where
   -- row 255, in the first part of what is lent
-  pub start-row : (n : ℕ) (lent row : List ℕ) → (n + 1) * n ≤ length lent → row ≡ map (λ d. getD codes d 0) (below (length (take n lent)))
+  pub start-row : (n : ℕ) (lent row : List ℕ) → cells n ≤ length lent → row ≡ map (λ d. getD codes d 0) (below (length (take n lent)))
       → row ≡ map (cell-from sets codes i starts-here) (below n)
   unfolding cell-from
   start-row n lent row h q = q ∙ ap (λ k. map (λ d. getD codes d 0) (below k)) (length-take-le n lent (omega arith))
@@ -189,9 +189,9 @@ module _ (table : List ℕ) (a : IsAccepted table) (t : Outline) (q : t ≡ outl
   own-n = own-routers table t q
 
   pub rows-of-table : i < t .routers → (codes : List ℕ) → codes ≡ start-codes sets i → (lent out : List ℕ)
-      → out ≡ rows (cell-from sets codes i) (t .routers) (t .routers) ++ drop ((t .routers + 1) * t .routers) lent
-      → out ≡ interfaces (says table) i ++ drop ((t .routers + 1) * t .routers) lent
+      → out ≡ rows (cell-from sets codes i) (t .routers) (t .routers) ++ drop (cells (t .routers)) lent
+      → out ≡ interfaces (says table) i ++ drop (cells (t .routers)) lent
   rows-of-table h codes c lent out g =
       g
-      ∙ ap (λ r. r ++ drop ((t .routers + 1) * t .routers) lent)
+      ∙ ap (λ r. r ++ drop (cells (t .routers)) lent)
       (ap (λ n. rows (cell-from sets codes i) n n) own-n ∙ whole-table (says table) (obeys table a) sets i e codes c (omega (arith, own-n)))

@@ -11,7 +11,8 @@ use lib.Seq.{take-at, drop-at, drop-drop}
 use borrow.Rule.Slice.PartMut.{same-len-mid}
 use Rattle.rules.specs.Words.{below}
 use Rattle.rules.specs.Entries.{starts-here}
-use Rattle.rules.proofs.Outputs.{length-rows}
+use Rattle.rules.specs.InterfacesQuestion.{cells}
+use Rattle.rules.proofs.Interfaces.{length-rows}
 use Rattle.rules.proofs.Basics.{length-below, length-values}
 use Rattle.interfaces.specs.Interfaces.{rows}
 
@@ -39,7 +40,7 @@ module _ (f : ℕ → ℕ → ℕ) (n : ℕ) where
 -- rows 255 and 0 to m − 1 are written, and behind them stands what was lent
 pub record Rowed (f : ℕ → ℕ → ℕ) (n : ℕ) (lent out : List ℕ) (m start : ℕ) : Type 0 where
   pub within : m ≤ n
-  pub room : (n + 1) * n ≤ length lent
+  pub room : cells n ≤ length lent
   pub place : start ≡ (m + 1) * n
   pub same-length : length out ≡ length lent
   pub so-far : out ≡ rows f n m ++ drop start lent
@@ -50,10 +51,10 @@ module _ (f : ℕ → ℕ → ℕ) (n : ℕ) where
     long : length row ≡ n
     long = ap length e ∙ length-values (f starts-here) n
 
-    whole : (n + 1) * n ≤ length lent → length (row ++ drop n lent) ≡ length lent
+    whole : cells n ≤ length lent → length (row ++ drop n lent) ≡ length lent
     whole h = length-append row (drop n lent) ∙ omega (arith, long, length-drop n lent)
 
-    pub row-started : (n + 1) * n ≤ length lent → Rowed f n (row ++ drop n lent) (row ++ drop n lent) 0 n
+    pub row-started : cells n ≤ length lent → Rowed f n (row ++ drop n lent) (row ++ drop n lent) 0 n
     unfolding rows flatten below
     row-started h = record {
       within = omega arith;
@@ -64,10 +65,10 @@ module _ (f : ℕ → ℕ → ℕ) (n : ℕ) where
     }
 
     module _ (out : List ℕ) (m start : ℕ) (w : Rowed f n (row ++ drop n lent) out m start) where
-      pub rows-long : (n + 1) * n ≤ length lent → length out ≡ length lent
+      pub rows-long : cells n ≤ length lent → length out ≡ length lent
       rows-long h = w .same-length ∙ whole h
 
-      pub rows-ended : n ≤ m → out ≡ rows f n n ++ drop ((n + 1) * n) lent
+      pub rows-ended : n ≤ m → out ≡ rows f n n ++ drop (cells n) lent
       rows-ended l =
           w .so-far
           ∙ ap₂ (λ k s. rows f n k ++ drop s (row ++ drop n lent)) same (w .place ∙ ap (λ k. (k + 1) * n) same ∙ ahead)
@@ -77,7 +78,7 @@ module _ (f : ℕ → ℕ → ℕ) (n : ℕ) where
           same : m ≡ n
           same = omega (arith, w .within)
 
-          ahead : (n + 1) * n ≡ n + n * n
+          ahead : cells n ≡ n + n * n
           ahead = omega arith
 
   -- one more row, in the part behind those that are written

@@ -7,7 +7,8 @@ use lib.ListN.{getD}
 use Rattle.rules.specs.Words.{_=?_, pick, _when_, first_otherwise_, below}
 use Rattle.rules.specs.NextHops.{has}
 use Rattle.rules.specs.Entries.{starts-here, entry-by, code, discard}
-use Rattle.rules.specs.Questions.{Answer, answered, refused-with, IsNumber, interfaces-answer, interfaces-after}
+use Rattle.rules.specs.Answers.{Answer, answered, refused-with, IsNumber}
+use Rattle.rules.specs.InterfacesQuestion.{InterfacesInputs, interfaces-answer, interfaces-after}
 use Rattle.entries.specs.Entries.{rules-by}
 use Rattle.interfaces.specs.declared.Writing.{Writing}
 use Rattle.interfaces.specs.declared.Writing.the-variants.{Written, Refused}
@@ -24,9 +25,9 @@ abbrev pub Numbered : Writing → Type 0
 Numbered (Written bytes) = Unit {0}
 Numbered (Refused number place) = IsNumber number
 
--- r answers the question about router i's interface table, and the output holds afterwards what it is to hold
-abbrev pub Writes : List ℕ → ℕ → List ℕ → Writing → List ℕ → Type 0
-Writes table i out r out′ = (writing-numbers r ≡ interfaces-answer table i out) × Numbered r × (out′ ≡ interfaces-after table i out)
+-- r answers the question about a router's interface table, and the output holds afterwards what it is to hold
+abbrev pub Writes : InterfacesInputs → Writing → List ℕ → Type 0
+Writes q r out = (writing-numbers r ≡ interfaces-answer q) × Numbered r × (out ≡ interfaces-after q)
 
 -- ---- rows by the router's next-hop sets for each destination
 

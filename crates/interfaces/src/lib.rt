@@ -1,13 +1,15 @@
 // The full interface table of a router: row 255 first, then a row for each previous hop, with a column for each destination.
 ghost use mathlib.Core.Path.{_≡_};
 ghost use mathlib.Core.List.{_++_, map};
-ghost use Prim.Native.Nat.{_+_, _*_, _≤_, _<_};
+ghost use Prim.Native.Nat.{_≤_, _<_};
 ghost use lib.ListN.{length, getD, drop, replicate};
 ghost use Rattle.rules.specs.Words.{pick, below};
 ghost use Rattle.rules.specs.Table.{says};
 ghost use Rattle.rules.specs.NextHops.{has, next-hops};
 ghost use Rattle.rules.specs.Entries.{interfaces};
 ghost use Rattle.rules.specs.Demand1.{IsAccepted};
+ghost use Rattle.rules.specs.Answers.{number-in};
+ghost use Rattle.rules.specs.InterfacesQuestion.{cells, interfaces-refusals};
 ghost use Rattle.tables.specs.Readings.{outline-of};
 ghost use Rattle.interfaces.specs.Interfaces.{Writes, start-codes, code-from, cell-from, members-of, rows};
 use entries::STARTS_HERE;
@@ -133,9 +135,9 @@ fn write_row(
 
 // All rows, by the router's next-hop sets for each of n destinations and the codes of row 255.
 fn write_rows(n: usize, router: u8, sets: &[u64; 64], codes: &[u8; 64], out: &mut [u8])
-    requires { ⌜ (n ≤ 64) × ((n + 1) * n ≤ length (now out)) ⌝ }
+    requires { ⌜ (n ≤ 64) × (cells n ≤ length (now out)) ⌝ }
     ensures { λ _. ⌜ now (out .exit)
-        ≡ rows (cell-from (now (sets .entry)) (now (codes .entry)) router) n n ++ drop ((n + 1) * n) (now (out .entry)) ⌝ }
+        ≡ rows (cell-from (now (sets .entry)) (now (codes .entry)) router) n n ++ drop (cells n) (now (out .entry)) ⌝ }
 {
     let members = all_members(sets);
     write_codes(codes, &mut out[..n]);
@@ -158,9 +160,23 @@ fn write_rows(n: usize, router: u8, sets: &[u64; 64], codes: &[u8; 64], out: &mu
 
 // How many bytes the table has for this many routers.
 fn size_for(routers: u8) -> u16
-    ensures { λ r. ⌜ r ≡ (routers + 1) * routers ⌝ }
+    ensures { λ r. ⌜ r ≡ cells routers ⌝ }
 {
     ((routers as u16) + 1) * (routers as u16)
+}
+
+// The first of 9 and 10 that refuses, of a table of so many routers, with so many bytes of room; 0 for none. The size is worked out once, by the caller.
+fn interfaces_number(routers: u8, router: u64, size: u16, room: usize) -> u8
+    requires { ⌜ size ≡ cells routers ⌝ }
+    ensures { λ r. ⌜ r ≡ number-in (interfaces-refusals routers router room) ⌝ }
+{
+    if (routers as u64) <= router {
+        return 9;
+    }
+    if room < (size as usize) {
+        return 10;
+    }
+    0
 }
 
 // A router's next-hop sets for all destinations, of an accepted table. As a function of its own, so that the compiler makes no copy of the web.
@@ -175,8 +191,8 @@ fn sets_of(table: &[u8], t: Outline, router: u8) -> [u64; 64]
 
 // The interface table of an accepted table's router.
 fn write_accepted(table: &[u8], t: Outline, router: u8, out: &mut [u8])
-    requires { ⌜ IsAccepted (now table) × (t ≡ outline-of (now table)) × (router < t .routers) × ((t .routers + 1) * t .routers ≤ length (now out)) ⌝ }
-    ensures { λ _. ⌜ now (out .exit) ≡ interfaces (says (now (table .entry))) router ++ drop ((t .routers + 1) * t .routers) (now (out .entry)) ⌝ }
+    requires { ⌜ IsAccepted (now table) × (t ≡ outline-of (now table)) × (router < t .routers) × (cells (t .routers) ≤ length (now out)) ⌝ }
+    ensures { λ _. ⌜ now (out .exit) ≡ interfaces (says (now (table .entry))) router ++ drop (cells (t .routers)) (now (out .entry)) ⌝ }
 {
     let sets = sets_of(table, t, router);
     let codes = start_codes(&sets, router);
@@ -185,23 +201,15 @@ fn write_accepted(table: &[u8], t: Outline, router: u8, out: &mut [u8])
 
 // The full interface table of a router.
 pub fn interfaces(table: &[u8], router: u64, out: &mut [u8]) -> Writing
-    ensures { λ r. ⌜ Writes (now (table .entry)) router (now (out .entry)) r (now (out .exit)) ⌝ }
+    ensures { λ r. ⌜ Writes (record { table = now (table .entry); router = router; out = now (out .entry) }) r (now (out .exit)) ⌝ }
 {
     let reading = read(table);
     match reading {
         Reading::Accepted(t) => {
-            if (t.routers as u64) <= router {
-                return Writing::Refused {
-                    number: 9,
-                    place: 0,
-                };
-            }
             let size = size_for(t.routers);
-            if out.len() < (size as usize) {
-                return Writing::Refused {
-                    number: 10,
-                    place: 0,
-                };
+            let number = interfaces_number(t.routers, router, size, out.len());
+            if number != 0 {
+                return Writing::Refused { number, place: 0 };
             }
             write_accepted(table, t, router as u8, out);
             Writing::Written(size)

@@ -7,7 +7,9 @@ use lib.ListN.{length, getD, drop}
 use lib.Seq.{sets}
 use Rattle.rules.specs.Words.{_=?_, pick, those, below}
 use Rattle.rules.specs.Costs.{no-cost}
-use Rattle.rules.specs.Listing.{line-of}
+use Rattle.rules.specs.Listing.{line-of, header, refusal-line}
+use Rattle.webs.specs.Webs.{web-weight}
+use Rattle.webs.specs.declared.Web.{Web}
 use Rattle.search.specs.declared.Found.{Found}
 use Rattle.search.specs.Search.{found-from}
 
@@ -34,3 +36,17 @@ lines-found found n i =
 -- the same by a search from it over these weights
 unfoldable pub lines-over : (ℕ → ℕ → ℕ) → ℕ → ℕ → List ℕ
 lines-over w n i = lines-found (found-from w i) n i
+
+-- ---- what each page holds
+
+-- the first line of every listing
+abbrev pub WritesHeader : List ℕ → ℕ → List ℕ → Type 0
+WritesHeader page r page′ = Writes page header r page′
+
+-- the only line of a refusal
+abbrev pub WritesRefusal : List ℕ → ℕ → ℕ → ℕ → List ℕ → Type 0
+WritesRefusal page number place r page′ = Writes page (refusal-line number place) r page′
+
+-- a router's lines, by a search from it over a web's weights
+abbrev pub WritesLines : List ℕ → Web → ℕ → ℕ → ℕ → List ℕ → Type 0
+WritesLines page web routers router r page′ = Writes page (lines-over (web-weight web) routers router) r page′

@@ -7,10 +7,9 @@ ghost use lib.Bits.{bitAnd};
 ghost use lib.Count.{trailingZeros};
 ghost use lib.ListN.{length};
 ghost use denote.Ref.{now};
-ghost use Rattle.rules.specs.Listing.{decimal, joined-by-commas, cost-and-next, line-of, header, refusal-line};
+ghost use Rattle.rules.specs.Listing.{decimal, joined-by-commas, cost-and-next, line-of};
 ghost use Rattle.rules.specs.NextHops.{members};
-ghost use Rattle.webs.specs.Webs.{web-weight};
-ghost use Rattle.lines.specs.Lines.{Puts, Writes, line-to-other, lines-found, lines-over};
+ghost use Rattle.lines.specs.Lines.{Puts, Writes, line-to-other, lines-found, WritesHeader, WritesRefusal, WritesLines};
 use libc::STDOUT_FILENO;
 use search::Found;
 use search::NO_COST;
@@ -158,14 +157,14 @@ fn lines_from(page: &mut [u8; 16384], found: Found, routers: u8, router: u8) -> 
 
 // The first line of every listing. This and the next two answer how many bytes they write.
 pub fn header(page: &mut [u8; 16384]) -> usize
-    ensures { λ r. ⌜ Writes (now (page .entry)) header r (now (page .exit)) ⌝ }
+    ensures { λ r. ⌜ WritesHeader (now (page .entry)) r (now (page .exit)) ⌝ }
 {
     put_text(page, 0, b"router dest cost next\n")
 }
 
 // The only line of a refusal.
 pub fn refusal_line(page: &mut [u8; 16384], number: u8, place: usize) -> usize
-    ensures { λ r. ⌜ Writes (now (page .entry)) (refusal-line number place) r (now (page .exit)) ⌝ }
+    ensures { λ r. ⌜ WritesRefusal (now (page .entry)) number place r (now (page .exit)) ⌝ }
 {
     let to_number = put_text(page, 0, b"refused ");
     let behind_number = put_decimal(page, to_number, number as u64);
@@ -176,7 +175,7 @@ pub fn refusal_line(page: &mut [u8; 16384], number: u8, place: usize) -> usize
 
 // One router's lines, by a search from it over a web.
 pub fn router_lines(page: &mut [u8; 16384], web: Web, routers: u8, router: u8) -> usize
-    ensures { λ r. ⌜ Writes (now (page .entry)) (lines-over (web-weight web) routers router) r (now (page .exit)) ⌝ }
+    ensures { λ r. ⌜ WritesLines (now (page .entry)) web routers router r (now (page .exit)) ⌝ }
 {
     lines_from(page, all_from(web, router), routers, router)
 }

@@ -13,7 +13,7 @@ use borrow.Author.Tests.{le-leb, lt-leb, eq-eqb, ne-eqb}
 use Rattle.rules.specs.Words.{pick}
 use Rattle.rules.specs.Layout.{Link, tag-link}
 use Rattle.rules.specs.Table.{byte, two-bytes, link-of}
-use Rattle.rules.specs.Questions.{no-more}
+use Rattle.rules.specs.LinkQuestion.{no-more}
 use Rattle.rules.proofs.Basics.{pick-t, pick-f}
 use Rattle.links.specs.Links.{link-there, link-at, behind, next-numbers, place-in, Tells}
 use Rattle.links.specs.declared.NextLink.the-variants.{One, NoMore}

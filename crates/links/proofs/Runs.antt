@@ -10,7 +10,7 @@ use lib.Seq.{drop-drop}
 use denote.Ref.{RefT, now}
 use Rattle.rules.specs.Words.{All, below}
 use Rattle.rules.specs.Table.{read, number-of, says}
-use Rattle.rules.specs.Questions.{NextLink, no-more, link-in, link-answer}
+use Rattle.rules.specs.LinkQuestion.{NextLink, no-more, link-in, link-answer}
 use Rattle.rules.proofs.Basics.{All-append, values-more}
 use Rattle.links.specs.Links.{next-numbers, link-at, behind}
 use Rattle.links.specs.Runs.{Moved, Run, made, asked, RunsGiveLinks}

@@ -2,27 +2,25 @@
 -- Assumes nothing.
 use mathlib.Core.Path.{_≡_, refl, sym, _∙_, ap, subst, subst₂}
 use mathlib.Core.Logic.{_≢_}
-use mathlib.Core.List.{List, [], _∷_}
+use mathlib.Core.List.{List, [], _∷_, _++_}
 use Prim.Native.Nat.{ℕ, zero, suc, _+_, _*_, _≤_, _<_}
 use native.Mathlib.Decide.{ℕ-discrete, decLe, decLt}
 use native.Mathlib.Omega.{arith}
-use lib.ListN.{length, take, drop}
-use lib.Seq.{getD-take, drop-drop}
+use lib.ListN.{length, drop, List·getD-append}
 use borrow.Author.Tests.{lt-ltb, le-ltb, eq-eqb, ne-eqb}
 use Rattle.rules.specs.Words.{those}
-use Rattle.rules.specs.Layout.{Link, tag-link, tag-end}
-use Rattle.rules.specs.Table.{byte, link-of, Kept, keep, record-in, Judged, accepted, refused, followed-by, read, number-of, records-of, table-of, says}
+use Rattle.rules.specs.Layout.{Link, tag-link, record-bytes}
+use Rattle.rules.specs.Table.{byte, Record, link-of, Kept, Judged, accepted, refused, read, number-of, records-of, table-of, says}
 use Rattle.rules.specs.Demand1.{IsAccepted}
-use Rattle.rules.specs.Questions.{no-more, link-in, link-answer}
+use Rattle.rules.specs.LinkQuestion.{no-more, link-in, link-answer}
 use Rattle.rules.proofs.Basics.{pick-t, pick-f}
-use Rattle.rules.proofs.Judging.{size-in, Good, Judges, stops, ends, goes, judge-judges}
-use Rattle.rules.proofs.Records.{tag-order}
-use Rattle.rules.proofs.AtPlace.{tag-there, size-there, left-behind, whole-there}
-use Rattle.rules.proofs.Refusals.{judged-whole}
+use Rattle.rules.proofs.Records.{record-at, Fine}
+use Rattle.rules.proofs.AtPlace.{tag-at, size-at, contents-at, rest-at, within}
+use Rattle.rules.proofs.Chains.{Chain, last, next, bytes-of, accepted-as}
 use Rattle.links.specs.Links.{link-at, behind, reader-start, LinksByNumber}
 use Rattle.tables.specs.Readings.{links-place, links-start}
 use Rattle.tables.proofs.Tests.{link-long}
-use Rattle.tables.proofs.Places.{links-here, links-later, more-links, same-links, no-links, Starts, starts, lower, judged-ends}
+use Rattle.tables.proofs.Places.{links-here, links-later, more-links, same-links, no-links, starts, lower, ends}
 use Rattle.links.proofs.Place.{there, cut, other, at-none, at-one, behind-one, behind-none}
 
 -- ---- the links of an accepted table
@@ -34,78 +32,51 @@ pub data Stand (bytes : List ℕ) : ℕ → List Link → Type 0 where
       → Stand bytes place (l ∷ ls)
 
 -- a link is settled by four bytes
-link-part : (n : ℕ) (l : List ℕ) → 4 ≤ n → link-of (take n l) ≡ link-of l
-link-part n l h = λ i. record { a = at 0 (omega arith) i; b = at 1 (omega arith) i; weight = at 2 (omega arith) i * 256 + at 3 (omega arith) i }
+link-part : (c rest : List ℕ) → length c ≡ 4 → link-of (c ++ rest) ≡ link-of c
+link-part c rest h = λ i. record { a = at 0 (omega arith) i; b = at 1 (omega arith) i; weight = at 2 (omega arith) i * 256 + at 3 (omega arith) i }
   where
-    at : (k : ℕ) → k < n → byte (take n l) k ≡ byte l k
-    at k = getD-take n l k 0
+    at : (k : ℕ) → k < length c → byte (c ++ rest) k ≡ byte c k
+    at k = List·getD-append c rest 0 k
 
 module _ (bytes : List ℕ) where
-  -- the links of a judged table stand where they start; the table ends in the bytes
-  abbrev StandIn : Judged → Type 0
-  StandIn (accepted rs end) = Stand bytes (links-place rs) (table-of rs .links) × (end ≤ length bytes)
-  StandIn (refused number at) = Unit {0}
+  -- a link's record whose bytes stand here
+  link-here : (kept : Kept) (place tag : ℕ) (c rest : List ℕ) → record-bytes tag c ++ rest ≡ drop place bytes → Fine kept tag c → tag ≡ tag-link
+      → link-at bytes place ≡ record { more = 1; link = link-of c }
+  link-here kept place tag c rest q f t =
+      let four = link-long tag (length c) (f .passes .sized) t in
+      at-one bytes place (
+      there bytes place (length c) (sym (size-at bytes place tag c rest q)) (omega (arith, within bytes place tag c rest q))
+      (tag-at bytes place tag c rest q ∙ t) four
+      )
+      ∙ ap (λ l. record { more = 1; link = l }) (ap link-of (sym (contents-at bytes place tag c rest q)) ∙ link-part c rest four)
 
-  module _ (kept : Kept) (place : ℕ) (left : List ℕ) (g : Good kept left) (e : left ≡ drop place bytes) where
-    -- a link's contents are its last four bytes
-    link-here : byte left 0 ≡ tag-link → link-at bytes place ≡ record { more = 1; link = link-of (record-in place left .contents) }
-    link-here t =
-        let four : size-in left ≡ 4 = link-long (byte left 0) (size-in left) (g .sized) t in
-        at-one bytes place (
-        there bytes place (size-in left) (size-there bytes place left e) (omega (arith, whole-there bytes place left e g))
-        (sym (tag-there bytes place left e) ∙ t) four
-        )
-        ∙ ap (λ l. record { more = 1; link = l })
-        (sym (link-part (size-in left) (drop 3 left) (omega arith) ∙ ap link-of (ap (drop 3) e ∙ drop-drop 3 place bytes)))
-
-    -- the end record
-    at-end : byte left 0 ≡ tag-end → StandIn (accepted (record-in place left ∷ []) (place + 3 + size-in left))
-    at-end t = (
-      subst₂ (Stand bytes)
-          (sym (links-here (record-in place left) [] (omega arith)))
-          (sym (same-links (record-in place left) [] (omega arith) ∙ no-links))
-          (none (at-none bytes place (other bytes place (omega (arith, tag-there bytes place left e))))),
-      whole-there bytes place left e g,
-    )
-
-    -- any other, in front of what follows it
-    at-record : (j : Judged) → byte left 0 ≢ tag-end → (tag-link ≤ byte left 0 → Starts (place + 3 + size-in left) j) → StandIn j
-        → StandIn (followed-by (record-in place left) j)
-    at-record (refused number at) t next h = h
-    at-record (accepted rs end) t next h = (go (ℕ-discrete (byte left 0) tag-link), h .1)
-      where
-        go : Dec (byte left 0 ≡ tag-link) → Stand bytes (links-place (record-in place left ∷ rs)) (table-of (record-in place left ∷ rs) .links)
-        go (yes l) =
-            let further : links-place rs ≡ place + 7 = next (omega arith) ∙ omega (arith, link-long (byte left 0) (size-in left) (g .sized) l) in
-            subst₂ (Stand bytes) (sym (links-here (record-in place left) rs (omega arith))) (sym (more-links (record-in place left) rs l))
-            (one (link-here l) (subst (λ n. Stand bytes n (table-of rs .links)) further (h .0)))
-        go (no l) =
-            subst₂ (Stand bytes)
-            (sym (links-later (record-in place left) rs (lower (tag-order kept (byte left 0) (g .tagged) .is-known) l t)))
-            (sym (same-links (record-in place left) rs l))
-            (h .0)
-
-  all-stand : {kept : Kept} {place : ℕ} {left : List ℕ} {j : Judged} → Judges kept place left j → left ≡ drop place bytes → StandIn j
-  unfolding keep
-  all-stand (stops q a b) e = tt
-  all-stand {kept} {place} {left} (ends g t) e = at-end kept place left g e t
-  all-stand {kept} {place} {left} (goes {j = j} g t r) e =
-      at-record kept place left g e j t (starts r) (all-stand r (left-behind bytes place left e))
+  -- the links of a chain whose bytes stand here
+  all-stand : {low place : ℕ} {kept : Kept} {rs : List Record} → Chain low kept place rs → bytes-of rs ≡ drop place bytes
+      → Stand bytes (links-place rs) (table-of rs .links)
+  all-stand (last {place = place} {tag = tag} {contents = c} e f) q =
+      let r = record-at place tag c in
+      subst₂ (Stand bytes) (sym (links-here r [] (omega arith))) (sym (same-links r [] (omega arith) ∙ no-links))
+      (none (at-none bytes place (other bytes place (omega (arith, tag-at bytes place tag c [] q)))))
+  all-stand {kept = kept} (next {place = place} {tag = tag} {contents = c} {rs = rs} l e f n) q =
+      let r = record-at place tag c in
+      let h = all-stand n (rest-at bytes place tag c (bytes-of rs) q) in
+      elim (ℕ-discrete tag tag-link) [
+        | yes t ↦
+            let further : links-place rs ≡ place + 7 = starts n (omega arith) ∙ omega (arith, link-long tag (length c) (f .passes .sized) t) in
+            subst₂ (Stand bytes) (sym (links-here r rs (omega arith))) (sym (more-links r rs t))
+            (one (link-here kept place tag c (bytes-of rs) q f t) (subst (λ n. Stand bytes n (table-of rs .links)) further h))
+        | no t ↦ subst₂ (Stand bytes) (sym (links-later r rs (lower kept tag c f t e))) (sym (same-links r rs t)) h
+      ]
 
 -- they stand one behind the other, and the end record behind them
 module _ (bytes : List ℕ) (e : IsAccepted bytes) where
-  accepted-stand : StandIn bytes (accepted (judged-whole bytes e .records) (judged-whole bytes e .end))
-  accepted-stand = subst (StandIn bytes) (judged-whole bytes e .judged-so) (all-stand bytes (judge-judges bytes) refl)
-
   pub links-stand : Stand bytes (links-start bytes) (says bytes .links)
   unfolding links-start says
-  links-stand = rw (judged-whole bytes e .read-so) (accepted-stand .0)
+  links-stand = let a = accepted-as bytes e in rw (a .read-so) (all-stand bytes (a .chain) (sym (a .laid)))
 
   links-end : links-start bytes + 7 * length (says bytes .links) + 3 ≡ length bytes
   unfolding links-start says
-  links-end =
-      let w = judged-whole bytes e in
-      rw (w .read-so) (omega (arith, judged-ends bytes (w .records) (w .end) (w .judged-so), accepted-stand .1, w .to-end))
+  links-end = let a = accepted-as bytes e in rw (a .read-so) (omega (arith, ends (a .chain), ap length (a .laid)))
 
 -- ---- a reader's links
 

@@ -8,7 +8,7 @@ use Rattle.rules.specs.Words.{_=?_, _≤?_, pick}
 use Rattle.rules.specs.Layout.{tag-link}
 use Rattle.rules.specs.Table.{byte, two-bytes, link-of, read, number-of}
 use Rattle.rules.specs.Demand1.{IsAccepted}
-use Rattle.rules.specs.Questions.{NextLink, no-more, link-answer}
+use Rattle.rules.specs.LinkQuestion.{NextLink, no-more, link-answer}
 use Rattle.tables.specs.Readings.{links-start}
 use Rattle.links.specs.declared.NextLink.{NextLink as NextLinkHere}
 use Rattle.links.specs.declared.NextLink.the-variants.{One, NoMore}
@@ -42,6 +42,10 @@ place-in place NoMore = place
 -- what is told at a place: the link whose record stands there, and the place behind it
 abbrev pub Tells : List ℕ → ℕ → NextLinkHere → Type 0
 Tells bytes place r = (next-numbers r ≡ link-at bytes place) × (place-in place r ≡ behind bytes place)
+
+-- the same of link i of those that start at a place
+abbrev pub TellsByNumber : List ℕ → ℕ → ℕ → NextLinkHere → Type 0
+TellsByNumber bytes start i r = Tells bytes (start + 7 * i) r
 
 -- From where an accepted table's links start, link i stands 7 × i bytes further on; behind the last there is none. (proofs/Stand)
 abbrev pub LinksByNumber : Type 0

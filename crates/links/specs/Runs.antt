@@ -7,7 +7,7 @@ use lib.ListN.{length}
 use denote.Ref.{RefT, now}
 use Rattle.rules.specs.Words.{All, below}
 use Rattle.rules.specs.Table.{read, number-of}
-use Rattle.rules.specs.Questions.{link-answer}
+use Rattle.rules.specs.LinkQuestion.{link-answer}
 use Rattle.links.specs.Links.{Tells, behind, next-numbers, reader-start}
 use Rattle.links.specs.declared.LinkReader.{LinkReader}
 use Rattle.links.specs.declared.NextLink.{NextLink as NextLinkHere}

@@ -1,7 +1,6 @@
 // Links of a table, one at a time.
 ghost use mathlib.Core.Path.{_≡_};
-ghost use Prim.Native.Nat.{_+_, _*_};
-ghost use Rattle.links.specs.Links.{Tells, place-in, reader-start};
+ghost use Rattle.links.specs.Links.{Tells, TellsByNumber, place-in, reader-start};
 ghost use Rattle.links.specs.Runs.{Made, Moved};
 use tables::LINK;
 use tables::Reading;
@@ -46,7 +45,7 @@ pub fn link_at(table: &[u8], place: usize) -> NextLink
 
 // Link i of those that start at a place: their records are 7 bytes each.
 pub fn link_by_number(table: &[u8], start: usize, i: u16) -> NextLink
-    ensures { λ r. ⌜ Tells (now (table .entry)) (start + 7 * i) r ⌝ }
+    ensures { λ r. ⌜ TellsByNumber (now (table .entry)) start i r ⌝ }
 {
     let len = table.len();
     if len < start {

@@ -2,22 +2,21 @@
 -- Assumes nothing.
 use mathlib.Core.Path.{_≡_, refl, sym, _∙_, ap, subst}
 use mathlib.Core.Logic.{_≢_}
-use mathlib.Core.List.{List, [], _∷_}
+use mathlib.Core.List.{List, [], _∷_, _++_}
 use Prim.Native.Nat.{ℕ, _+_, _≤_, _<_}
-use native.Mathlib.Decide.{ℕ-discrete}
+use native.Mathlib.Nat.{add-zero}
 use native.Mathlib.Omega.{arith}
-use lib.ListN.{length, drop}
-use lib.Seq.{getD-drop, getD-take}
-use borrow.Author.Tests.{eq-eqb, ne-eqb}
-use Rattle.rules.specs.Words.{those}
-use Rattle.rules.specs.Layout.{Name, tag-routers, tag-name}
-use Rattle.rules.specs.Table.{byte, Record, name-of, Kept, nothing-kept, keep, record-in, Judged, accepted, refused, followed-by, table-of, says}
-use Rattle.rules.proofs.Judging.{size-in, contents-in, Good, Judges, stops, ends, goes, judge-judges}
-use Rattle.rules.proofs.Records.{InOrder, tag-order, Fine, good-fine, length-contents, size-at-most, fine-routers, fine-name}
+use lib.ListN.{length, drop, List·getD-append}
+use lib.Seq.{getD-drop}
+use Rattle.rules.specs.Layout.{Name, tag-routers, tag-name, tag-link}
+use Rattle.rules.specs.Table.{byte, Record, name-of, Kept, says}
 use Rattle.rules.specs.Demand1.{IsAccepted}
-use Rattle.rules.proofs.AtPlace.{byte-there, tag-there, left-behind, whole-there}
-use Rattle.rules.proofs.Refusals.{judged-whole}
-use Rattle.rules.proofs.Reading.{names-in}
+use Rattle.rules.proofs.Records.{record-at, size-at-most}
+use Rattle.rules.proofs.AtPlace.{tag-at, size-at, contents-at, rest-at, within}
+use Rattle.rules.proofs.Chains.{Chain, last, next, bytes-of, accepted-as}
+use Rattle.rules.proofs.Sections.{Row, none, one, own, after, on}
+use Rattle.rules.proofs.TableSections.{names, name-exact}
+use Rattle.rules.proofs.Reading.{whole, their-table, links-chain}
 
 -- from this place on these names follow each other, and then a record of another kind
 pub data Listed (bytes : List ℕ) : ℕ → List Name → Type 0 where
@@ -26,96 +25,40 @@ pub data Listed (bytes : List ℕ) : ℕ → List Name → Type 0 where
       → byte bytes (place + 2) ≡ length (m .bytes) + 1 → place + 4 + length (m .bytes) ≤ length bytes
       → Listed bytes (place + 4 + length (m .bytes)) ms → Listed bytes place (m ∷ ms)
 
--- one record in front: a name, or none
-names-with : (r : Record) (rs : List Record) → r .tag ≡ tag-name → names-in (r ∷ rs) ≡ name-of r ∷ names-in rs
-unfolding table-of those
-names-with r rs e = rw (eq-eqb (r .tag) tag-name e)
-
-names-without : (r : Record) (rs : List Record) → r .tag ≢ tag-name → names-in (r ∷ rs) ≡ names-in rs
-unfolding table-of those
-names-without r rs e = rw (ne-eqb (r .tag) tag-name e)
-
 module _ (bytes : List ℕ) where
-  -- what judging lists from this place on; behind a link no name follows
-  abbrev Lists : Kept → ℕ → Judged → Type 0
-  Lists kept place (accepted rs end) = Listed bytes place (names-in rs) × (tag-name < kept .tag → names-in rs ≡ [])
-  Lists kept place (refused number at) = Unit {0}
+  -- no name stands where links or the end begin
+  none-here : {kept : Kept} {place : ℕ} {rs : List Record} → Chain tag-link kept place rs → bytes-of rs ≡ drop place bytes → Listed bytes place []
+  none-here (last {place = place} {tag = tag} {contents = c} e f) q =
+      done {place = place} (omega (arith, within bytes place tag c [] q)) (omega (arith, tag-at bytes place tag c [] q))
+  none-here (next {place = place} {tag = tag} {contents = c} {rs = rs} l e f r) q =
+      done {place = place} (omega (arith, within bytes place tag c (bytes-of rs) q)) (omega (arith, tag-at bytes place tag c (bytes-of rs) q))
 
-  module _ (kept : Kept) (place : ℕ) (left : List ℕ) (g : Good kept left) (e : left ≡ drop place bytes) where
-    -- a record that is no name begins here
-    none-here : (rs : List Record) → byte left 0 ≢ tag-name → names-in rs ≡ [] → Listed bytes place (names-in rs)
-    none-here rs t n = rw n (done {place = place} (omega (arith, whole-there bytes place left e g)) (λ h. t (tag-there bytes place left e ∙ h)))
-
-    -- a name stands here
-    name-here : (rs : List Record) → byte left 0 ≡ tag-name → Listed bytes (place + 3 + size-in left) (names-in rs)
-        → Listed bytes place (name-of (record-in place left) ∷ names-in rs)
-    name-here rs t h =
-        more {m = m} (sym (tag-there bytes place left e) ∙ t) router refl (omega (arith, size, byte-there bytes place left e 2, size-at-most (byte left 0) (size-in left) (g .sized)))
-        (omega (arith, size, whole-there bytes place left e g)) (subst (λ n. Listed bytes n (names-in rs)) (omega (arith, size)) h)
-      where
-        m : Name
-        m = name-of (record-in place left)
-
-        fine : Fine kept tag-name (contents-in left)
-        fine = rw t at (good-fine kept left g)
-
-        size : size-in left ≡ length (m .bytes) + 1
-        size = sym (length-contents kept left g) ∙ omega (arith, ap length (fine-name kept place (contents-in left) fine .0))
-
-        router : byte bytes (place + 3) ≡ m .router
-        router = sym (getD-take (size-in left) (drop 3 left) 0 0 (omega (arith, size)) ∙ getD-drop 3 left 0 0 ∙ byte-there bytes place left e 3)
-
-  -- behind the routers record
-  listed : {kept : Kept} {place : ℕ} {left : List ℕ} {j : Judged} → Judges kept place left j → left ≡ drop place bytes → 1 ≤ kept .tag → Lists kept place j
-  unfolding keep table-of those
-  listed (stops q a b) e s = tt
-  listed {kept} {place} {left} (ends g t) e s =
-      let none : names-in (record-in place left ∷ []) ≡ [] = names-without (record-in place left) [] (omega arith) in
-      (none-here kept place left g e (record-in place left ∷ []) (omega arith) none, λ h. none)
-  listed {kept} {place} {left} (goes {j = j} g t r) e s =
-      let o = tag-order kept (byte left 0) (g .tagged) in
-      go j o (listed r (left-behind bytes place left e) (omega (arith, o .not-below)))
+  -- a row of names in front of them
+  row-listed : {kept : Kept} {place : ℕ} {ms : List Name} (r : Row names ⊥ kept place ms) (rest : List Record) → bytes-of (own r ++ rest) ≡ drop place bytes
+      → Chain tag-link (after r) (on r) rest → Listed bytes place ms
+  row-listed none rest q c = none-here c q
+  row-listed {kept} {place} (one {c = c} {xs = ms} f s e r) rest q n =
+      subst (λ m. Listed bytes place (m ∷ ms)) s
+      (more {m = name-of (record-at place tag-name c)} (tag-at bytes place tag-name c behind q) router refl
+      (omega (arith, size, size-at bytes place tag-name c behind q, size-at-most tag-name (length c) (f .passes .sized)))
+      (omega (arith, size, within bytes place tag-name c behind q))
+      (subst (λ on. Listed bytes on ms) (omega (arith, size)) (row-listed r rest (rest-at bytes place tag-name c behind q) n)))
     where
-      here : Record
-      here = record-in place left
+      behind : List ℕ
+      behind = bytes-of (own r ++ rest)
 
-      go : (j : Judged) → InOrder kept (byte left 0) → Lists (keep kept here) (place + 3 + size-in left) j → Lists kept place (followed-by here j)
-      go (refused number at) o h = tt
-      go (accepted rs end) o (h, none) = name (ℕ-discrete (byte left 0) tag-name)
-        where
-          name : Dec (byte left 0 ≡ tag-name) → Lists kept place (accepted (here ∷ rs) end)
-          name (yes y) = (rw (names-with here rs y) (name-here kept place left g e rs y h), λ l. absurd (omega (arith, o .not-below)))
-          name (no n) =
-              let empty : names-in (here ∷ rs) ≡ [] = names-without here rs n ∙ none (omega (arith, o .not-below, o .no-second s)) in
-              (none-here kept place left g e (here ∷ rs) n empty, λ l. empty)
+      size : length c ≡ length (drop 1 c) + 1
+      size = omega (arith, ap (λ (c : List ℕ). length c) (name-exact (kept .routers) c (f .passes)))
 
--- the names of an accepted table, behind its routers record
-abbrev Names : List ℕ → Judged → Type 0
-Names bytes (accepted rs end) = Listed bytes 4 (names-in rs)
-Names bytes (refused number at) = Unit {0}
-
-judged-names : {bytes : List ℕ} {j : Judged} → Judges nothing-kept 0 bytes j → Names bytes j
-unfolding keep
-judged-names (stops q a b) = tt
-judged-names {bytes} (ends g t) = absurd (omega (arith, tag-order nothing-kept (byte bytes 0) (g .tagged) .first-routers refl))
-judged-names {bytes} (goes {j = j} g t r) = behind j (listed bytes r refl (omega (arith, first-tag)))
-  where
-    first-tag : byte bytes 0 ≡ tag-routers
-    first-tag = tag-order nothing-kept (byte bytes 0) (g .tagged) .first-routers refl
-
-    fine : Fine nothing-kept tag-routers (contents-in bytes)
-    fine = rw first-tag at (good-fine nothing-kept bytes g)
-
-    size : size-in bytes ≡ 1
-    size = sym (length-contents nothing-kept bytes g) ∙ ap length (fine-routers nothing-kept (contents-in bytes) fine .0)
-
-    behind : (j : Judged) → Lists bytes (keep nothing-kept (record-in 0 bytes)) (0 + 3 + size-in bytes) j → Names bytes (followed-by (record-in 0 bytes) j)
-    behind (refused number at) h = tt
-    behind (accepted rs end) h =
-        rw (names-without (record-in 0 bytes) rs (omega (arith, first-tag))) (subst (λ n. Listed bytes n (names-in rs)) (omega (arith, size)) (h .0))
+      router : byte bytes (place + 3) ≡ byte c 0
+      router =
+          ap (byte bytes) (sym (add-zero (place + 3))) ∙ sym (getD-drop (place + 3) bytes 0 0)
+          ∙ ap (λ l. byte l 0) (sym (contents-at bytes place tag-name c behind q)) ∙ List·getD-append c behind 0 0 (omega (arith, size))
 
 pub names-listed : (bytes : List ℕ) → IsAccepted bytes → Listed bytes 4 (says bytes .names)
 unfolding says
 names-listed bytes e =
-    let w = judged-whole bytes e in
-    rw (w .read-so) (subst (Names bytes) (w .judged-so) (judged-names (judge-judges bytes)))
+    let a = accepted-as bytes e in
+    let (t, o) = whole {Exact = ⊥} (λ x. absurd x) (a .chain) in
+    let behind = rest-at bytes 0 tag-routers (t .routers ∷ []) _ (ap bytes-of (sym (o .are)) ∙ sym (a .laid)) in
+    rw (a .read-so, their-table o) (row-listed bytes (o .names-row) _ behind (links-chain o tag-link (omega arith)))

@@ -11,7 +11,7 @@ use Rattle.rules.specs.Layout.{Name, tag-name}
 use Rattle.rules.specs.Table.{byte, says}
 use Rattle.rules.specs.Demand1.{IsAccepted}
 use Rattle.rules.specs.Names.{name-in}
-use Rattle.rules.specs.Questions.{name-for}
+use Rattle.rules.specs.NameQuestions.{name-for}
 use Rattle.rules.proofs.Basics.{pick-t, pick-f}
 use Rattle.names.specs.Namings.{naming-of}
 use Rattle.names.specs.declared.Naming.the-variants.{Named, Unnamed}

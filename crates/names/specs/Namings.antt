@@ -1,12 +1,12 @@
 -- What the companion of the name questions answers, in document 01's numbers.
 use mathlib.Core.Path.{_≡_}
-use mathlib.Core.List.{List}
 use mathlib.Core.Option.{Option, none, some}
 use Prim.Native.Nat.{ℕ}
 use lib.ListN.{length}
 use Rattle.rules.specs.Layout.{Name}
 use Rattle.rules.specs.Names.{Part}
-use Rattle.rules.specs.Questions.{Answer, answered, refused-with, IsNumber, name-answer, name-part, two-names-answer, two-names-part}
+use Rattle.rules.specs.Answers.{Answer, answered, refused-with, IsNumber}
+use Rattle.rules.specs.NameQuestions.{NameInputs, name-answer, name-part, TwoNamesInputs, two-names-answer, two-names-part}
 use Rattle.names.specs.declared.Naming.{Naming}
 use Rattle.names.specs.declared.Naming.the-variants.{Named, Unnamed, Refused}
 
@@ -23,11 +23,11 @@ NamesPart part Unnamed = Unit {0}
 NamesPart part (Refused number table place) = IsNumber number
 
 -- r answers the companion question for one table, and for two
-abbrev pub NamesIn : List ℕ → ℕ → Naming → Type 0
-NamesIn table router r = (naming-numbers r ≡ name-answer table router) × NamesPart (name-part table router) r
+abbrev pub NamesIn : NameInputs → Naming → Type 0
+NamesIn q r = (naming-numbers r ≡ name-answer q) × NamesPart (name-part q) r
 
-abbrev pub NamesInTwo : List ℕ → List ℕ → ℕ → Naming → Type 0
-NamesInTwo old new router r = (naming-numbers r ≡ two-names-answer old new router) × NamesPart (two-names-part old new router) r
+abbrev pub NamesInTwo : TwoNamesInputs → Naming → Type 0
+NamesInTwo q r = (naming-numbers r ≡ two-names-answer q) × NamesPart (two-names-part q) r
 
 -- the answer for the name in one table, if there is one
 unfoldable pub naming-of : ℕ → Option Name → Naming

@@ -6,9 +6,9 @@ ghost use mathlib.Core.Path.{_≡_};
 ghost use Prim.Native.Nat.{_+_, _≤_};
 ghost use lib.ListN.{length};
 ghost use Rattle.rules.specs.Demand1.{IsAccepted};
-ghost use Rattle.rules.specs.Questions.{name-for, name-part, two-names-part};
+ghost use Rattle.rules.specs.NameQuestions.{name-for};
 ghost use Rattle.names.specs.Namings.{NamesIn, NamesInTwo, naming-of, naming-of-two};
-ghost use Rattle.names.specs.Parts.{PartAt, IsPart, IsPartOfTwo};
+ghost use Rattle.names.specs.Parts.{PartAt, GivesName, GivesNameOfTwo};
 
 // The companion's answer: the part that the name is, or unnamed, or the refusal. Table 0 is the old or only one, 1 the new.
 pub enum Naming {
@@ -66,7 +66,7 @@ fn find_in_two(old: &[u8], new: &[u8], router: u8) -> Naming
 
 // The companion question for one table.
 pub fn naming_in(table: &[u8], router: u64) -> Naming
-    ensures { λ r. ⌜ NamesIn (now (table .entry)) router r ⌝ }
+    ensures { λ r. ⌜ NamesIn (record { table = now (table .entry); router = router }) r ⌝ }
 {
     let reading = read(table);
     match reading {
@@ -86,7 +86,7 @@ pub fn naming_in(table: &[u8], router: u64) -> Naming
 
 // The companion question for two tables.
 pub fn naming_in_two(old: &[u8], new: &[u8], router: u64) -> Naming
-    ensures { λ r. ⌜ NamesInTwo (now (old .entry)) (now (new .entry)) router r ⌝ }
+    ensures { λ r. ⌜ NamesInTwo (record { old = now (old .entry); new = now (new .entry); router = router }) r ⌝ }
 {
     let old_reading = read(old);
     match old_reading {
@@ -127,7 +127,7 @@ fn part_at<'a>(table: &'a [u8], place: usize, size: usize) -> &'a [u8]
 
 // The name in one table; the empty part at its end where there is none, or a refusal.
 pub fn name_in<'a>(table: &'a [u8], router: u64) -> &'a [u8]
-    ensures { λ r. ⌜ IsPart (table .entry) (name-part (now (table .entry)) router) r ⌝ }
+    ensures { λ r. ⌜ GivesName (table .entry) router r ⌝ }
 {
     let naming = naming_in(table, router);
     let Naming::Named {
@@ -143,7 +143,7 @@ pub fn name_in<'a>(table: &'a [u8], router: u64) -> &'a [u8]
 
 // The name in the new table, or else the one in the old; the empty part at the end of the new one where there is none, or a refusal.
 pub fn name_in_two<'a>(old: &'a [u8], new: &'a [u8], router: u64) -> &'a [u8]
-    ensures { λ r. ⌜ IsPartOfTwo (old .entry) (new .entry) (two-names-part (now (old .entry)) (now (new .entry)) router) r ⌝ }
+    ensures { λ r. ⌜ GivesNameOfTwo (old .entry) (new .entry) router r ⌝ }
 {
     let naming = naming_in_two(old, new, router);
     let Naming::Named { table, place, size } = naming else {

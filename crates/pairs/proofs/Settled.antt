@@ -1,22 +1,28 @@
--- The answer to two tables together is settled: its numbers tell all cases apart, and the promise of `pair` allows one answer.
+-- The promise of `pair` allows one answer: each case is had again from its numbers.
 -- Assumes nothing.
-use mathlib.Core.Path.{_≡_, sym, _∙_, ap}
-use mathlib.Core.List.{List}
-use Prim.Native.Nat.{ℕ}
+use mathlib.Core.Path.{_≡_, sym, ap₂}
+use Rattle.rules.specs.Words.{_=?_, pick}
+use Rattle.rules.specs.Answers.{Answer}
+use Rattle.rules.specs.PairQuestion.{PairInputs, Pairing}
 use Rattle.rules.specs.Promises.{Settles}
-use Rattle.pairs.specs.declared.Pairing.{Pairing}
+use Rattle.rules.proofs.Uniqueness.{numbers-settle, refused-again}
+use Rattle.tables.specs.Readings.{outline-of}
+use Rattle.pairs.specs.declared.Pairing.{Pairing as PairingHere}
 use Rattle.pairs.specs.declared.Pairing.the-variants.{Accepted, Refused}
 use Rattle.pairs.specs.Pairings.{pairing-numbers, Outlines, Pairs}
 
--- answers with the tables' own outlines, and refusals with a number, are told apart by their numbers
-pub pairing-apart : (old new : List ℕ) (x y : Pairing) → Outlines old new x → Outlines old new y → pairing-numbers x ≡ pairing-numbers y → x ≡ y
-unfolding pairing-numbers
-pairing-apart old new (Accepted differ o n) (Accepted differ′ o′ n′) p q e =
-    λ i. Accepted (e i .values .differ) ((p .0 ∙ sym (q .0)) i) ((p .1 ∙ sym (q .1)) i)
-pairing-apart old new (Accepted differ o n) (Refused number table place) p q e = absurd (q (sym (ap (λ a. a .refusal .number) e)))
-pairing-apart old new (Refused number table place) (Accepted differ o n) p q e = absurd (p (ap (λ a. a .refusal .number) e))
-pairing-apart old new (Refused number table place) (Refused number′ table′ place′) p q e =
-    λ i. Refused (e i .refusal .number) (e i .refusal .table) (e i .refusal .place)
+module _ (q : PairInputs) where
+  -- two accepted tables have their own outlines
+  pairing-from : Answer Pairing → PairingHere
+  pairing-from a =
+      pick (a .refusal .number =? 0)
+      (Accepted (a .values .differ) (outline-of (q .old)) (outline-of (q .new)))
+      (Refused (a .refusal .number) (a .refusal .table) (a .refusal .place))
 
-pub pair-settled : (old new : List ℕ) → Settles (Pairs old new)
-pair-settled old new x y p q = pairing-apart old new x y (p .1) (q .1) (p .0 ∙ sym (q .0))
+  pairing-again : (x : PairingHere) → Outlines q x → pairing-from (pairing-numbers x) ≡ x
+  unfolding pairing-from pairing-numbers
+  pairing-again (Accepted differ old new) own = ap₂ (Accepted differ) (sym (own .0)) (sym (own .1))
+  pairing-again (Refused number table place) own = refused-again _ _ _ own
+
+  pub pair-settled : Settles (Pairs q)
+  pair-settled = numbers-settle _ _ pairing-numbers (Outlines q) pairing-from pairing-again _

@@ -3,7 +3,7 @@ use mathlib.Core.List.{List}
 use Prim.Native.Nat.{ℕ}
 use Rattle.rules.specs.Words.{_=?_, pick}
 use Rattle.rules.specs.Layout.{pair-number}
-use Rattle.rules.specs.Questions.{NextLink}
+use Rattle.rules.specs.LinkQuestion.{NextLink}
 use Rattle.links.specs.Links.{link-at, behind}
 use Rattle.pairs.specs.declared.Front.{Front}
 

@@ -110,7 +110,7 @@ fn count_differing(old: &[u8], i: usize, new: &[u8], k: usize) -> u16
 // Two tables that are accepted, with what each holds: 8 for different N, or for more than one link that differs.
 fn compare(old: &[u8], o: Outline, new: &[u8], n: Outline) -> Pairing
     requires { ⌜ IsAccepted (now old) × IsAccepted (now new) × (o ≡ outline-of (now old)) × (n ≡ outline-of (now new)) ⌝ }
-    ensures { λ r. ⌜ Pairs (now (old .entry)) (now (new .entry)) r ⌝ }
+    ensures { λ r. ⌜ Pairs (record { old = now (old .entry); new = now (new .entry) }) r ⌝ }
 {
     if o.routers != n.routers {
         return TOO_DIFFERENT;
@@ -128,7 +128,7 @@ fn compare(old: &[u8], o: Outline, new: &[u8], n: Outline) -> Pairing
 
 // Two tables together: each is read, the old one first, and then they are compared.
 pub fn pair(old: &[u8], new: &[u8]) -> Pairing
-    ensures { λ r. ⌜ Pairs (now (old .entry)) (now (new .entry)) r ⌝ }
+    ensures { λ r. ⌜ Pairs (record { old = now (old .entry); new = now (new .entry) }) r ⌝ }
 {
     let first = read(old);
     match first {

@@ -2,29 +2,28 @@
 -- Assumes nothing.
 use mathlib.Core.Path.{_≡_, refl, sym, _∙_, ap}
 use mathlib.Core.Logic.{_≢_}
-use mathlib.Core.Bool.{Bool, true, false, _||_, not}
-use mathlib.Core.List.{List, [], _∷_}
+use mathlib.Core.Bool.{Bool, true, false, not}
+use mathlib.Core.List.{List, [], _∷_, _++_}
 use Prim.Native.Nat.{ℕ, _-_, _≤_, _<_}
-use native.Mathlib.Omega.{arith}
-use lib.Dec.{eqb, leb, ltb}
 use native.Mathlib.Nat.{zero-add}
+use native.Mathlib.Omega.{arith}
+use lib.Dec.{leb}
 use lib.ListN.{length, take}
-use borrow.Author.Tests.{lt-ltb, le-ltb, le-leb, lt-leb, eq-eqb, ne-eqb}
-use Rattle.rules.specs.Words.{_when_, first_otherwise_, every, pick}
+use borrow.Author.Tests.{lt-ltb, le-ltb, le-leb, lt-leb}
+use Rattle.rules.specs.Words.{_<?_, pick, Line, _when_, every}
 use Rattle.rules.specs.Table.{says}
-use Rattle.rules.specs.Pairs.{too-different}
-use Rattle.rules.specs.Paths.{Outcome, delivered, discarded, unrouted, lost, outcome-code, Trip}
-use Rattle.rules.specs.Questions.{Answer, Refusal, Ending, answered, refused-with, refusal, answer, pair-answer, bad-router, few-views, bad-views, ending, trip-of, path-answer, trace-after}
-use Rattle.rules.specs.Demand1.{AcceptedTogether, PathAsked}
-use Rattle.rules.proofs.Acceptance.{obeys}
-use Rattle.rules.proofs.Basics.{pick-t, pick-f}
-use Rattle.rules.proofs.Cases.{answered-exactly, quiet-pair}
-use Rattle.rules.proofs.Lines.{table-good, line-passes, front-refuses}
-use Rattle.rules.proofs.Refusals.{writes, stays}
+use Rattle.rules.specs.Paths.{Path, Outcome, delivered, discarded, unrouted, lost, outcome-code}
+use Rattle.rules.specs.Answers.{Refusal, answered, refused-with, number-in}
+use Rattle.rules.specs.PairQuestion.{pair-refusals, pair-answer, AcceptedTogether}
+use Rattle.rules.specs.PathQuestion.{PathInputs, no-ending, ending, few-views, bad-views, bad-numbers, path-refusals, path-of, path-answer, trace-after, PathAsked}
+use Rattle.rules.proofs.Basics.{pick-f}
+use Rattle.rules.proofs.Answers.{asks-routers, front-refuses, number-refuses, number-answers, refused-stays, answered-writes}
+use Rattle.rules.proofs.PairQuestion.{asks-pair}
+use Rattle.rules.proofs.PathQuestion.{path-proved}
 use Rattle.paths.specs.declared.Ending.{Ending as EndingHere}
-use Rattle.paths.specs.declared.Tracing.the-variants.{Ended, Refused}
-use Rattle.paths.specs.Walks.{outcome-case, ending-after, written}
-use Rattle.paths.specs.Tracings.{outcome-number, tracing-numbers, Traces, number-for}
+use Rattle.paths.specs.declared.PathAnswer.the-variants.{Ended, Refused}
+use Rattle.paths.specs.Following.{outcome-case, ending-after, written}
+use Rattle.paths.specs.PathAnswers.{code-of, ending-numbers, path-answer-numbers, AnswersPath}
 
 -- ---- number 11
 
@@ -37,123 +36,128 @@ module _ (n : ℕ) (views : List ℕ) where
   unfolding bad-views few-views
   first-views h good e = rw (le-ltb (length views) (n - 1) h, e)
 
--- ---- 9, 11 and 10, where the tables go together
+-- ---- number 9
 
-module _ (n s d : ℕ) (views : List ℕ) (room : ℕ) where
-  pub source-bad : n ≤ s → 9 ≡ number-for n s d views room
-  unfolding number-for
+module _ (n s d : ℕ) where
+  pub source-bad : n ≤ s → true ≡ bad-numbers n s d
+  unfolding bad-numbers
   source-bad h = rw (le-leb n s h)
 
-  module _ (a : s < n) where
-    pub destination-bad : n ≤ d → 9 ≡ number-for n s d views room
-    unfolding number-for
-    destination-bad h = rw (lt-leb n s a, le-leb n d h)
+  pub destination-decides : s < n → leb n d ≡ bad-numbers n s d
+  unfolding bad-numbers
+  destination-decides a = rw (lt-leb n s a)
 
-    module _ (b : d < n) where
-      pub views-bad : (bad : Bool) → bad ≡ bad-views n views → bad ≡ true → 11 ≡ number-for n s d views room
-      unfolding number-for
-      views-bad bad e t = rw (lt-leb n s a, lt-leb n d b, ← e, t)
+  -- where it does not apply, source and destination are one byte
+  small : n ≤ 64 → bad-numbers n s d ≡ false → (s < 256) × (d < 256)
+  unfolding bad-numbers
+  small few e = let (a, b) = asks-routers n n s d .0 e in (omega arith, omega arith)
 
-      module _ (bad : Bool) (e : bad ≡ bad-views n views) (g : bad ≡ false) where
-        pub no-room : room < n → 10 ≡ number-for n s d views room
-        unfolding number-for
-        no-room h = rw (lt-leb n s a, lt-leb n d b, ← e, g, lt-ltb room n h)
+-- ---- 9, 11 and 10, where the tables go together
 
-        pub all-good : n ≤ room → 0 ≡ number-for n s d views room
-        unfolding number-for
-        all-good h = rw (lt-leb n s a, lt-leb n d b, ← e, g, le-ltb room n h)
+module _ (n : ℕ) (bad : Bool) (views : List ℕ) (room : ℕ) where
+  pub number-bad : bad ≡ true → 9 ≡ number-in (path-refusals n bad views room)
+  unfolding path-refusals
+  number-bad h = rw h
+
+  module _ (a : bad ≡ false) (few : Bool) (e : few ≡ bad-views n views) where
+    pub views-bad : few ≡ true → 11 ≡ number-in (path-refusals n bad views room)
+    unfolding path-refusals
+    views-bad t = rw (a, ← e, t)
+
+    module _ (g : few ≡ false) where
+      pub no-room : room < n → 10 ≡ number-in (path-refusals n bad views room)
+      unfolding path-refusals
+      no-room h = rw (a, ← e, g, lt-ltb room n h)
+
+      pub all-good : n ≤ room → 0 ≡ number-in (path-refusals n bad views room)
+      unfolding path-refusals
+      all-good h = rw (a, ← e, g, le-ltb room n h)
+
+  -- where none of them refuses, no number is bad
+  none-bad : 0 ≡ number-in (path-refusals n bad views room) → bad ≡ false
+  unfolding path-refusals
+  none-bad = go bad
+    where
+      go : (t : Bool) → 0 ≡ pick t 9 (number-in (11 when bad-views n views ∷ 10 when (room <? n) ∷ [])) → t ≡ false
+      go true h = absurd (omega arith)
+      go false h = refl
+
+pub numbers-fit : (n s d : ℕ) → n ≤ 64 → (bad : Bool) → bad ≡ bad-numbers n s d
+    → (views : List ℕ) (room number : ℕ) → number ≡ number-in (path-refusals n bad views room) → number ≡ 0 → (s < 256) × (d < 256)
+numbers-fit n s d few bad b views room number e z = small n s d few (sym b ∙ none-bad n bad views room (sym z ∙ e))
 
 -- ---- the answer
 
 -- an outcome's case has its code
-pub case-code : (o : Outcome) → outcome-number (outcome-case o) ≡ outcome-code o
-unfolding outcome-number outcome-case
+pub case-code : (o : Outcome) → code-of (outcome-case o) ≡ outcome-code o
+unfolding code-of outcome-case
 case-code delivered = refl
 case-code discarded = refl
 case-code unrouted = refl
 case-code lost = refl
 
--- the numbers of an ending are those of the trip that it tells
-told : (trip : Trip) (e : EndingHere) → e ≡ ending-after 0 trip
-    → record { outcome = outcome-number (e .outcome); router = e .router; hops = e .hops } ≡ ending trip
+-- the numbers of an ending are those of the path that it tells
+told : (path : Path) (e : EndingHere) → e ≡ ending-after 0 path → ending-numbers e ≡ ending path
 unfolding ending-after
-told trip e q =
-    rw (q, zero-add (trip .hops)) (ap (λ o. record { outcome = o; router = trip .router; hops = trip .hops }) (case-code (trip .outcome)))
+told path e q =
+    rw (q, zero-add (path .hops)) (ap (λ o. record { outcome = o; router = path .router; hops = path .hops }) (case-code (path .outcome)))
 
-module _ (old new : List ℕ) (s d : ℕ) (views trace : List ℕ) where
-  abbrev zeros : Ending
-  zeros = record { outcome = 0; router = 0; hops = 0 }
-
-  abbrev trip : Trip
-  trip = trip-of old new s d views
-
+module _ (q : PathInputs) where
   -- a refusal leaves what was lent
-  refused : (number table place : ℕ) → number ≢ 0 → path-answer old new s d views trace ≡ refused-with zeros number table place
-      → Traces old new s d views trace (Refused number table place) trace
-  unfolding tracing-numbers trace-after
-  refused number table place n e = (sym e, n, sym (stays (path-answer old new s d views trace) _ trace m))
-    where
-      m : path-answer old new s d views trace .refusal .number ≢ 0
-      m z = n (sym (ap (λ (a : Answer Ending). a .refusal .number) e) ∙ z)
+  refused : (number table place : ℕ) → number ≢ 0 → path-answer q ≡ refused-with no-ending number table place
+      → AnswersPath q (Refused number table place) (q .trace)
+  unfolding path-answer-numbers trace-after
+  refused number table place n e = (sym e, n, refused-stays _ _ _ no-ending number table place e n)
 
   -- what refuses the two tables refuses the path
   pub pair-refused : (number table place : ℕ)
-      → (pair-answer old new .refusal ≡ record { number = number; table = table; place = place }) × (number ≢ 0)
-      → Traces old new s d views trace (Refused number table place) trace
+      → (pair-answer (record { old = q .old; new = q .new }) .refusal ≡ record { number = number; table = table; place = place }) × (number ≢ 0)
+      → AnswersPath q (Refused number table place) (q .trace)
   unfolding path-answer pair-answer
   pair-refused number table place (e, n) =
       refused number table place n
-      (front-refuses _ _ zeros _ _ _ (λ z. n (sym (ap (λ (r : Refusal). r .number) e) ∙ z)) ∙ ap (λ (r : Refusal). record { refusal = r; values = zeros }) e)
+      (front-refuses _ _ no-ending _ _ _ (λ z. n (sym (ap (λ (r : Refusal). r .number) e) ∙ z)) ∙ ap (λ (r : Refusal). record { refusal = r; values = no-ending }) e)
 
-  module _ (𝓐 : AcceptedTogether old new) (n : ℕ) (same : n ≡ says new .routers) (number : ℕ) (q : number ≡ number-for n s d views (length trace)) where
-    -- only 9, 11 and 10 are left to be asked
-    left : path-answer old new s d views trace
-        ≡ answer (refusal 9 when (bad-router (says new .routers) s || bad-router (says new .routers) d) ∷ refusal 11 when bad-views (says new .routers) views ∷ refusal 10 when ltb (length trace) (says new .routers) ∷ [])
-        zeros
-        (ending trip)
+  -- 9, 11 and 10 of tables of so many routers
+  abbrev refusals : ℕ → Bool → List (Line ℕ)
+  refusals n bad = path-refusals n bad (q .views) (length (q .trace))
+
+  abbrev bad-of : ℕ → Bool
+  bad-of n = bad-numbers n (q .source) (q .destination)
+
+  module _ (𝓐 : AcceptedTogether (q .old) (q .new)) (n : ℕ) (same : n ≡ says (q .new) .routers)
+      (bad : Bool) (b : bad ≡ bad-of n) (number : ℕ) (e : number ≡ number-in (refusals n bad)) where
+    -- all of the question's numbers, of which 8 does not apply
+    abbrev all : List (Line ℕ)
+    all = pair-refusals (says (q .old)) (says (q .new)) ++ refusals (says (q .new) .routers) (bad-of (says (q .new) .routers))
+
+    found : number ≡ number-in all
+    found =
+        e
+        ∙ ap (λ t. number-in (refusals n t)) b
+        ∙ ap (λ n. number-in (refusals n (bad-of n))) same
+        ∙ sym (pick-f _ _ _ (asks-pair (says (q .old)) (says (q .new)) .1 (𝓐 .same-routers, 𝓐 .one-link)))
+
+    pub number-refused : number ≢ 0 → AnswersPath q (Refused number 0 0) (q .trace)
     unfolding path-answer
-    left =
-        table-good _ _ 0 old _ (𝓐 .old-accepted)
-        ∙ table-good _ _ 1 new _ (𝓐 .new-accepted)
-        ∙ line-passes _ _ (refusal 8 when too-different (says old) (says new)) _ (quiet-pair (says old) (says new) .1 (𝓐 .same-routers, 𝓐 .one-link))
-
-    -- and the number decides
-    decides : path-answer old new s d views trace ≡ pick (eqb number 0) (answered (ending trip)) (refused-with zeros number 0 0)
-    unfolding answer number-for
-    decides =
-        left
-        ∙ go (bad-router (says new .routers) s || bad-router (says new .routers) d) (bad-views (says new .routers) views) (ltb (length trace) (says new .routers))
-        ∙ ap (λ n. pick (eqb n 0) (answered (ending trip)) (refused-with zeros n 0 0)) (sym (q ∙ ap (λ n. number-for n s d views (length trace)) same))
-      where
-        go : (a b c : Bool)
-            → answer (refusal 9 when a ∷ refusal 11 when b ∷ refusal 10 when c ∷ []) zeros (ending trip)
-            ≡ pick (eqb (first 9 when a ∷ 11 when b ∷ 10 when c ∷ [] otherwise 0) 0) (answered (ending trip)) (refused-with zeros (first 9 when a ∷ 11 when b ∷ 10 when c ∷ [] otherwise 0) 0 0)
-        go true b c = refl
-        go false true c = refl
-        go false false true = refl
-        go false false false = refl
-
-    pub number-refused : number ≢ 0 → Traces old new s d views trace (Refused number 0 0) trace
-    number-refused h = refused number 0 0 h (decides ∙ pick-f _ _ _ (ne-eqb number 0 h))
+    number-refused h =
+        refused number 0 0 h
+        (number-refuses no-ending (ending (path-of q)) (q .old ∷ q .new ∷ []) all (𝓐 .old-accepted, (𝓐 .new-accepted, tt)) number found h)
 
     module _ (z : number ≡ 0) where
-      answers : path-answer old new s d views trace ≡ answered (ending trip)
-      answers = decides ∙ pick-t _ _ _ (eq-eqb number 0 z)
+      answers : path-answer q ≡ answered (ending (path-of q))
+      unfolding path-answer
+      answers = number-answers no-ending (ending (path-of q)) (q .old ∷ q .new ∷ []) all (𝓐 .old-accepted, (𝓐 .new-accepted, tt)) number found z
 
-      pub asked : PathAsked old new s d views trace
-      asked = answered-exactly .of-path old new s d views trace .0 (ap (λ a. a .refusal .number) answers)
+      pub asked : PathAsked q
+      asked = path-proved q .asked .0 (ap (λ a. a .refusal .number) answers)
 
-      -- source and destination are one byte
-      pub numbers-fit : (s < 256) × (d < 256)
-      numbers-fit =
-          let f = obeys new (𝓐 .new-accepted) .few-routers in
-          (omega (arith, f, asked .from-router), omega (arith, f, asked .to-router))
-
-      pub ended : (e : EndingHere) (trace′ : List ℕ) → (e ≡ ending-after 0 trip) × (trace′ ≡ written trip trace)
-          → Traces old new s d views trace (Ended e) trace′
-      unfolding tracing-numbers trace-after
-      ended e trace′ (p, t) = (
-        ap answered (told trip e p) ∙ sym answers,
+      -- what was followed is the path
+      pub ended : (followed : Path) → followed ≡ path-of q → (e : EndingHere) (trace : List ℕ)
+          → (e ≡ ending-after 0 followed) × (trace ≡ written followed (q .trace)) → AnswersPath q (Ended e) trace
+      unfolding path-answer-numbers trace-after
+      ended followed f e trace (p, t) = (
+        ap answered (told (path-of q) e (p ∙ ap (ending-after 0) f)) ∙ sym answers,
         tt,
-        t ∙ sym (writes (path-answer old new s d views trace) (trip .trace) trace (ap (λ a. a .refusal .number) answers)),
+        t ∙ ap (λ x. written x (q .trace)) f ∙ answered-writes _ _ _ _ (length (path-of q .trace)) answers refl,
       )

@@ -1,6 +1,7 @@
-pub mod Walking
-pub mod Numbers
-pub mod Journeys
+pub mod Following
+pub mod Guides
+pub mod EndingWords
+pub mod OverTables
 pub mod Answers
 pub mod Settled
 pub mod Loopless

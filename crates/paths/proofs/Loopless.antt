@@ -1,31 +1,18 @@
--- Demand 3 of what the path question's function answers and writes: from its promise, and from demand 3 of the path.
+-- Demand 3 of what the path question's function answers and writes: what it tells is the path of `rules`.
 -- Assumes nothing.
 use mathlib.Core.Path.{_≡_, refl, sym, _∙_, ap, subst}
 use mathlib.Core.List.{List}
-use Prim.Native.Nat.{ℕ, suc, _<_}
-use native.Mathlib.Omega.{arith}
-use lib.ListN.{length, getD}
-use lib.Seq.{getD-take}
-use borrow.Author.Tests.{eq-eqb}
-use Rattle.rules.specs.Words.{Distinct}
-use Rattle.rules.specs.Table.{says, byte}
-use Rattle.rules.specs.Links.{weight}
-use Rattle.rules.specs.Paths.{Outcome, delivered, discarded, unrouted, lost, Trip, listed}
-use Rattle.rules.specs.Questions.{Answer, Ending, ending, trip-of, path-answer, trace-after}
-use Rattle.rules.specs.Demand1.{Answered, Holds}
-use Rattle.rules.specs.Demand3.{EachHop, total}
-use Rattle.rules.specs.Demand3 as rule
-use Rattle.rules.proofs.Answered.{demand3-for-questions}
-use Rattle.rules.proofs.Basics.{pick-t}
-use Rattle.rules.proofs.Cases.{answered-exactly}
-use Rattle.rules.proofs.Outputs.{outputs-hold}
-use Rattle.rules.proofs.Refusals.{lent-outputs-stay}
-use Rattle.rules.proofs.Values.{values-given}
+use Prim.Native.Nat.{ℕ, suc}
+use lib.ListN.{take, drop}
+use Rattle.rules.specs.Paths.{Outcome, delivered, discarded, unrouted, lost, listed}
+use Rattle.rules.specs.Answers.{Answer, Answered, Holds}
+use Rattle.rules.specs.PathQuestion.{PathInputs, Ending, ending, path-of, path-answer, trace-after, PathAsked}
+use Rattle.rules.proofs.PathQuestion.{path-proved}
 use Rattle.paths.specs.declared.Ending.{Ending as EndingHere}
-use Rattle.paths.specs.declared.Tracing.the-variants.{Ended, Refused}
-use Rattle.paths.specs.Walks.{outcome-case, outcome-told}
-use Rattle.paths.specs.Tracings.{outcome-number, tracing-numbers}
-use Rattle.paths.specs.Loopless.{AllNew, AtLeastCost, Loopless, Demand3OfTheCode}
+use Rattle.paths.specs.declared.PathAnswer.the-variants.{Ended, Refused}
+use Rattle.paths.specs.Following.{outcome-case, outcome-told}
+use Rattle.paths.specs.PathAnswers.{ending-numbers, path-answer-numbers}
+use Rattle.paths.specs.Loopless.{path-told, Demand3Told, Demand3OfTheCode}
 use Rattle.paths.proofs.Answers.{case-code}
 use Rattle.paths.proofs.Settled.{outcome-apart}
 
@@ -37,82 +24,59 @@ told-again discarded = refl
 told-again unrouted = refl
 told-again lost = refl
 
-module _ (old new : List ℕ) (s d : ℕ) (views trace : List ℕ) where
-  abbrev trip : Trip
-  trip = trip-of old new s d views
+module _ (q : PathInputs) where
+  -- all that `rules` says of the path
+  of-path : PathAsked q → Demand3Told q (path-of q)
+  unfolding path-of
+  of-path h =
+      let 𝓓 = path-proved q .demand3 (h .together) (h .numbers) (listed (q .views)) in
+      record { loopless = 𝓓 .general .loopless; over-new-links = 𝓓 .over-new-links; all-new = 𝓓 .all-new }
 
-  -- the path's ending
-  abbrev own : EndingHere
-  own = record { outcome = outcome-case (trip .outcome); router = trip .router; hops = trip .hops }
+  module _ (a : Answered (path-answer q)) (e : EndingHere) (p : ending-numbers e ≡ ending (path-of q)) (trace : List ℕ) (t : trace ≡ trace-after q) where
+    held : Holds (suc (path-of q .hops)) (path-of q .trace) (q .trace) (trace-after q)
+    held = path-proved q .trace-held .held a
 
-  module _ (a : Answered (path-answer old new s d views trace)) where
-    held : Holds (suc (trip .hops)) (trip .trace) trace (trace-after old new s d views trace)
-    held = outputs-hold .trace-held old new s d views trace a
+    same-hops : e .hops ≡ path-of q .hops
+    same-hops = ap (λ (x : Ending). x .hops) p
 
-    𝓓 : rule.Demand3OfPath (says old) (says new) s d (listed views)
-    𝓓 = demand3-for-questions old new s d views trace a .demand3
+    -- an ending with the path's numbers, and the trace, tell the path
+    told-path : path-told e trace ≡ path-of q
+    unfolding path-told
+    told-path = λ z. record { outcome = same-outcome z; router = p z .router; hops = p z .hops; trace = same-trace z }
+      where
+        same-outcome : outcome-told (e .outcome) ≡ path-of q .outcome
+        same-outcome =
+            ap outcome-told
+            (outcome-apart (e .outcome) (outcome-case (path-of q .outcome)) (ap (λ (x : Ending). x .outcome) p ∙ sym (case-code (path-of q .outcome))))
+            ∙ told-again (path-of q .outcome)
 
-    -- a byte of the trace stands there
-    seen : (n : ℕ) → n < suc (trip .hops) → getD (trace-after old new s d views trace) n 255 ≡ getD (trip .trace) n 255
-    seen n h = sym (getD-take (suc (trip .hops)) (trace-after old new s d views trace) n 255 h) ∙ ap (λ l. getD l n 255) (held .front)
+        same-trace : take (suc (e .hops)) trace ≡ path-of q .trace
+        same-trace = ap (λ n. take (suc n) trace) same-hops ∙ ap (take (suc (path-of q .hops))) t ∙ held .front
 
-    -- the bytes of the routers that decided are 1, so that they used the new view
-    new-views : AllNew views own → rule.AllNew (listed views) trip
-    unfolding listed
-    new-views all n h = pick-t _ _ _ (eq-eqb (byte views n) 1 (all n (rw (told-again (trip .outcome)) h)))
-
-    cheapest : AllNew views own → AtLeastCost new s d own (trace-after old new s d views trace)
-    unfolding outcome-case outcome-told trip-of
-    cheapest all =
-        let l = 𝓓 .all-new (new-views all) in
-        record {
-          not-discarded = λ e. l .not-discarded (sym (told-again (trip .outcome)) ∙ ap outcome-told e);
-          not-lost = λ e. l .not-lost (sym (told-again (trip .outcome)) ∙ ap outcome-told e);
-          arrives = λ h.
-              let (o, i, t) = l .arrives h in
-              (ap outcome-case o, i, ap (total (weight (says new))) (held .front) ∙ t);
-          told = λ e. let t = l .told e in (ap (λ x. outcome-case (x .outcome)) t, ap (λ x. x .router) t, ap (λ x. x .hops) t);
-        }
-
-    loopless : Loopless new s d views trace own (trace-after old new s d views trace)
-    unfolding trip-of
-    loopless =
-        let l = 𝓓 .general .loopless in
-        record {
-          once = subst Distinct (sym (held .front)) (l .once);
-          few = omega (arith, l .few);
-          counted = ap length (held .front) ∙ held .all-written;
-          from-source = seen 0 (omega arith) ∙ l .from-source;
-          to-its-end = seen (trip .hops) (omega arith) ∙ l .to-its-end;
-          over-new-links = subst (EachHop (λ i k. 0 < weight (says new) i k)) (sym (held .front)) (𝓓 .over-new-links);
-          later = held .later;
-          all-new = cheapest;
-        }
-
-  -- an ending with the path's numbers is the path's
-  same-ending : (e : EndingHere) → record { outcome = outcome-number (e .outcome); router = e .router; hops = e .hops } ≡ ending trip → e ≡ own
-  same-ending e q =
-      λ z. record {
-        outcome = outcome-apart (e .outcome) (outcome-case (trip .outcome)) (ap (λ (x : Ending). x .outcome) q ∙ sym (case-code (trip .outcome))) z;
-        router = q z .router;
-        hops = q z .hops;
-      }
+    -- and nothing is written behind it
+    later : drop (suc (e .hops)) trace ≡ drop (suc (e .hops)) (q .trace)
+    later =
+        ap (λ n. drop (suc n) trace) same-hops
+        ∙ ap (drop (suc (path-of q .hops))) t
+        ∙ held .later
+        ∙ sym (ap (λ n. drop (suc n) (q .trace)) same-hops)
 
 pub demand3-of-the-code : Demand3OfTheCode
-unfolding tracing-numbers
-demand3-of-the-code old new s d views trace (Ended e) after (p, n, t) = (
-  answered-exactly .of-path old new s d views trace .0 a,
-  subst (λ (x : EndingHere × List ℕ). Loopless new s d views trace (x .0) (x .1))
-      (λ z. (sym (same-ending old new s d views trace e (ap (λ x. x .values) p ∙ values-given .of-path old new s d views trace a)) z, sym t z))
-      (loopless old new s d views trace a),
-)
+unfolding path-answer-numbers
+demand3-of-the-code q (Ended e) trace (p, n, t) = (h, subst (Demand3Told q) (sym (told-path q a e numbers trace t)) (of-path q h), later q a e numbers trace t)
   where
-    a : Answered (path-answer old new s d views trace)
+    a : Answered (path-answer q)
     a = sym (ap (λ (x : Answer Ending). x .refusal .number) p)
-demand3-of-the-code old new s d views trace (Refused number table place) after (p, n, t) = (
-  λ q. n (e ∙ answered-exactly .of-path old new s d views trace .1 q),
-  t ∙ lent-outputs-stay .trace-stays old new s d views trace (λ z. n (e ∙ z)),
+
+    h : PathAsked q
+    h = path-proved q .asked .0 a
+
+    numbers : ending-numbers e ≡ ending (path-of q)
+    numbers = ap (λ x. x .values) p ∙ path-proved q .exactly .given a
+demand3-of-the-code q (Refused number table place) trace (p, n, t) = (
+  λ h. n (e ∙ path-proved q .asked .1 h),
+  t ∙ path-proved q .trace-held .stays (λ z. n (e ∙ z)),
 )
   where
-    e : number ≡ path-answer old new s d views trace .refusal .number
+    e : number ≡ path-answer q .refusal .number
     e = ap (λ (x : Answer Ending). x .refusal .number) p

@@ -1,41 +1,46 @@
--- The number of an outcome, the answer to the path question, and the trace afterwards, are settled.
+-- The code of an outcome, the answer to the path question, and the trace afterwards, are settled.
 -- Assumes nothing.
 use mathlib.Core.Path.{_≡_, refl, sym, _∙_, ap}
-use mathlib.Core.List.{List}
 use Prim.Native.Nat.{ℕ}
-use Rattle.rules.specs.Promises.{Settles}
-use Rattle.rules.proofs.Uniqueness.{value-settled}
+use Rattle.rules.specs.Words.{_=?_, pick}
+use Rattle.rules.specs.Answers.{Answer}
+use Rattle.rules.specs.PathQuestion.{PathInputs, Ending}
+use Rattle.rules.specs.Promises.{Settles, SettlesBoth, HadAgain}
+use Rattle.rules.proofs.Uniqueness.{numbers-tell-apart, value-settled, refused-again}
 use Rattle.paths.specs.declared.Outcome.{Outcome}
 use Rattle.paths.specs.declared.Outcome.the-variants.{Delivered, Discarded, NoRoute, Lost}
-use Rattle.paths.specs.declared.Tracing.{Tracing}
-use Rattle.paths.specs.declared.Tracing.the-variants.{Ended, Refused}
-use Rattle.paths.specs.Tracings.{outcome-number, outcome-of, tracing-numbers, Numbered, Traces}
+use Rattle.paths.specs.declared.PathAnswer.{PathAnswer}
+use Rattle.paths.specs.declared.PathAnswer.the-variants.{Ended, Refused}
+use Rattle.paths.specs.PathAnswers.{code-of, outcome-of, path-answer-numbers, Numbered, AnswersPath, Codes}
 
--- the outcome that has an outcome's number is itself
-pub outcome-again : (o : Outcome) → outcome-of (outcome-number o) ≡ o
-unfolding outcome-of outcome-number
+-- the outcome that has an outcome's code is itself
+pub outcome-again : (o : Outcome) → outcome-of (code-of o) ≡ o
+unfolding outcome-of code-of
 outcome-again Delivered = refl
 outcome-again Discarded = refl
 outcome-again NoRoute = refl
 outcome-again Lost = refl
 
-pub outcome-apart : (x y : Outcome) → outcome-number x ≡ outcome-number y → x ≡ y
-outcome-apart x y e = sym (outcome-again x) ∙ ap outcome-of e ∙ outcome-again y
+pub outcome-apart : (x y : Outcome) → code-of x ≡ code-of y → x ≡ y
+outcome-apart x y = numbers-tell-apart Outcome ℕ code-of (λ o. Unit {0}) outcome-of (λ o u. outcome-again o) x y tt tt
 
-pub outcome-code-settled : (o : Outcome) → Settles (λ r. r ≡ outcome-number o)
+pub outcome-code-settled : (o : Outcome) → Settles (Codes o)
 outcome-code-settled o = value-settled _
 
--- endings, and refusals with a number, are told apart by their numbers
-pub tracing-apart : (x y : Tracing) → Numbered x → Numbered y → tracing-numbers x ≡ tracing-numbers y → x ≡ y
-unfolding tracing-numbers
-tracing-apart (Ended e) (Ended f) p q s =
-    λ z. Ended (record { outcome = outcome-apart (e .outcome) (f .outcome) (ap (λ a. a .values .outcome) s) z; router = s z .values .router; hops = s z .values .hops })
-tracing-apart (Ended e) (Refused number table place) p q s = absurd (q (sym (ap (λ a. a .refusal .number) s)))
-tracing-apart (Refused number table place) (Ended f) p q s = absurd (p (ap (λ a. a .refusal .number) s))
-tracing-apart (Refused number table place) (Refused number′ table′ place′) p q s =
-    λ z. Refused (s z .refusal .number) (s z .refusal .table) (s z .refusal .place)
+-- the answer that has such numbers
+again : Answer Ending → PathAnswer
+again a =
+    pick (a .refusal .number =? 0) (Ended (record { outcome = outcome-of (a .values .outcome); router = a .values .router; hops = a .values .hops }))
+    (Refused (a .refusal .number) (a .refusal .table) (a .refusal .place))
+
+had-again : HadAgain path-answer-numbers Numbered again
+unfolding path-answer-numbers again
+had-again (Ended e) own = ap (λ o. Ended (record { outcome = o; router = e .router; hops = e .hops })) (outcome-again (e .outcome))
+had-again (Refused number table place) own = refused-again number _ _ own
 
 -- the answer, and the trace afterwards
-pub path-settled : (old new : List ℕ) (s d : ℕ) (views trace : List ℕ)
-    → Settles (λ (both : Tracing × List ℕ). Traces old new s d views trace (both .0) (both .1))
-path-settled old new s d views trace x y p q = λ z. (tracing-apart (x .0) (y .0) (p .1) (q .1) (p .0 ∙ sym (q .0)) z, (p .2 ∙ sym (q .2)) z)
+pub path-settled : (q : PathInputs) → SettlesBoth (AnswersPath q)
+path-settled q x y p r = λ z. (
+  numbers-tell-apart _ _ path-answer-numbers Numbered again had-again (x .0) (y .0) (p .1) (r .1) (p .0 ∙ sym (r .0)) z,
+  (p .2 ∙ sym (r .2)) z,
+)

@@ -1,3 +1,3 @@
-pub mod Tracings
-pub mod Walks
+pub mod PathAnswers
+pub mod Following
 pub mod Loopless

@@ -4,15 +4,12 @@ ghost use mathlib.Core.List.{_++_};
 ghost use Prim.Native.Nat.{_<_, _≤_};
 ghost use lib.ListN.{length, take, drop, set, replicate};
 ghost use Rattle.rules.specs.Words.{_≤?_, every};
-ghost use Rattle.rules.specs.Entries.{entry-by};
-ghost use Rattle.rules.specs.Paths.{by, listed};
-ghost use Rattle.rules.specs.Questions.{bad-views, trip-of};
-ghost use Rattle.rules.specs.Demand1.{PathAsked};
-ghost use Rattle.tables.specs.Readings.{outline-of};
-ghost use Rattle.search.specs.Steps.{AreSets};
+ghost use Rattle.rules.specs.Paths.{entry-at, listed};
+ghost use Rattle.rules.specs.Answers.{number-in};
+ghost use Rattle.rules.specs.PathQuestion.{bad-views, bad-numbers, path-refusals};
 ghost use Rattle.entries.specs.Entries.{entry-told};
-ghost use Rattle.paths.specs.Walks.{guide-to, rules-over, ending-after, written, ending-number, ending-of, Arriving, Arrives, Leaving, Leaves};
-ghost use Rattle.paths.specs.Tracings.{outcome-number, outcome-of, number-for, Traces};
+ghost use Rattle.paths.specs.Following.{laid, guided, guides-to, site-over, path-over, ending-after, written, ending-word, ending-in, Standing, Arrives, Leaves, Lent};
+ghost use Rattle.paths.specs.PathAnswers.{outcome-of, Codes, AnswersPath};
 use entries::Entry;
 use entries::STARTS_HERE;
 use entries::decide;
@@ -40,14 +37,14 @@ pub struct Ending {
 }
 
 // The path question's answer: the ending, or a number, which table (0 the old, 1 the new) and a place.
-pub enum Tracing {
+pub enum PathAnswer {
     Ended(Ending),
     Refused { number: u8, table: u8, place: usize },
 }
 
-// The number of an outcome.
+// The code of an outcome.
 pub fn outcome_code(outcome: Outcome) -> u8
-    ensures { λ r. ⌜ r ≡ outcome-number outcome ⌝ }
+    ensures { λ r. ⌜ Codes outcome r ⌝ }
 {
     match outcome {
         Outcome::Delivered => 128,
@@ -57,47 +54,80 @@ pub fn outcome_code(outcome: Outcome) -> u8
     }
 }
 
-// What is found of one view: each router's next-hop set for the destination, and the set of those that it is linked to. A walk reads the sets of both
-// views, and the links of the new one.
-struct Guide {
-    sets: [u64; 64],
-    near: [u64; 64],
+// What following reads, for one destination: each router's next-hop set in the old view and, from NEW_SETS on, in the new view, beside each router's
+// row of neighbours over links that carry, from CARRIERS on: the adjacency matrix's pattern, one 64-bit number a row.
+type Guides = [u64; 192];
+
+const OLD_SETS: usize = 0;
+
+const NEW_SETS: usize = 64;
+
+const CARRIERS: usize = 128;
+
+// Guides that lead nowhere.
+fn no_guides() -> Guides
+    ensures { λ r. ⌜ r ≡ replicate 192 0 ⌝ }
+{
+    [0; 192]
 }
 
-// The guide of a view, by its table.
-fn guide_to(table: &[u8], t: Outline, destination: u8) -> Guide
-    ensures { λ r. ⌜ r ≡ guide-to (now (table .entry)) t destination ⌝ }
+// The numbers of 64 routers are laid into the guides, from a place on.
+fn lay(numbers: [u64; 64], at: usize, guides: &mut Guides)
+    requires { ⌜ (at ≤ 128) × (length (now guides) ≡ 192) ⌝ }
+    ensures { λ _. ⌜ now (guides .exit) ≡ laid at numbers (now (guides .entry)) ⌝ }
+{
+    let mut i = 0;
+    while i < 64 {
+        guides[at + i] = numbers[i];
+        i += 1;
+    }
+}
+
+// What a table says for a destination is laid into the guides: its sets from a place on, and its links as those that carry.
+fn lay_table(table: &[u8], t: Outline, destination: u8, at: usize, guides: &mut Guides)
+    requires { ⌜ (at ≤ 128) × (length (now guides) ≡ 192) ⌝ }
+    ensures { λ _. ⌜ now (guides .exit) ≡ guided at (now (table .entry)) t destination (now (guides .entry)) ⌝ }
 {
     let web = web_of(table, t);
     let costs = costs_from(web, destination);
     let sets = sets_by(web, costs);
+    lay(sets, at, guides);
     let near = web.near;
-    Guide { sets, near }
+    lay(near, CARRIERS, guides);
+}
+
+// The guides of two tables: the links of the new one, which is laid last, carry.
+fn guides_to(old: &[u8], o: Outline, new: &[u8], n: Outline, destination: u8) -> Guides
+    ensures { λ r. ⌜ r ≡ guides-to (now (old .entry)) o (now (new .entry)) n destination ⌝ }
+{
+    let mut guides = no_guides();
+    lay_table(old, o, destination, OLD_SETS, &mut guides);
+    lay_table(new, n, destination, NEW_SETS, &mut guides);
+    guides
 }
 
 // The entry of the router that decides after so many hops: its byte of the list says the view for the whole entry. The destination delivers in
 // either view and reads no byte.
 fn entry_at<'a>(
-    old: &'a [u64; 64],
-    new: &'a [u64; 64],
+    guides: &'a Guides,
     views: &'a [u8; 64],
     destination: u8,
     router: u8,
     previous: u8,
     hops: u8,
 ) -> Entry
-    requires { ⌜ AreSets (now old) × AreSets (now new) × (router < 64) × (hops < 64) ⌝ }
+    requires { ⌜ (router < 64) × (hops < 64) ⌝ }
     ensures { λ r. ⌜ entry-told r
-        ≡ entry-by (rules-over (by (listed (now (views .entry)) router hops) (now (old .entry)) (now (new .entry)))) router previous destination ⌝ }
+        ≡ entry-at (site-over destination (now (guides .entry))) (listed (now (views .entry))) hops router previous ⌝ }
 {
     if router == destination {
         return Entry::Deliver;
     }
     let i = router as usize;
     if views[hops as usize] == 1 {
-        return decide(new[i], router, previous, destination);
+        return decide(guides[NEW_SETS + i], router, previous, destination);
     }
-    decide(old[i], router, previous, destination)
+    decide(guides[OLD_SETS + i], router, previous, destination)
 }
 
 // The router is written behind those that were visited before it.
@@ -108,16 +138,15 @@ fn visit(trace: &mut [u8; 64], hops: u8, router: u8)
     trace[hops as usize] = router;
 }
 
-// An ending as one number: the router, the hops and the outcome's number, a byte each.
-fn number_of(ending: Ending) -> u32
-    ensures { λ r. ⌜ r ≡ ending-number ending ⌝ }
+// An ending as one number: the router, the hops and the outcome's code, a byte each.
+fn ending_word(outcome: Outcome, router: u8, hops: u8) -> u32
+    ensures { λ r. ⌜ r ≡ ending-word (record { outcome = outcome; router = router; hops = hops }) ⌝ }
 {
-    let outcome = ending.outcome;
     let code = outcome_code(outcome);
-    (ending.router as u32) + 256 * (ending.hops as u32) + 65536 * (code as u32)
+    (router as u32) + 256 * (hops as u32) + 65536 * (code as u32)
 }
 
-// The outcome that has this number; every other number counts as lost.
+// The outcome that has this code; every other number counts as lost.
 fn outcome_of(code: u8) -> Outcome
     ensures { λ r. ⌜ r ≡ outcome-of code ⌝ }
 {
@@ -133,24 +162,21 @@ fn outcome_of(code: u8) -> Outcome
     Outcome::Lost
 }
 
-// The ending that such a number tells.
-fn ending_of(number: u32) -> Ending
-    ensures { λ r. ⌜ r ≡ ending-of number ⌝ }
+// The ending in such a number.
+fn ending_in(word: u32) -> Ending
+    ensures { λ r. ⌜ r ≡ ending-in word ⌝ }
 {
-    let outcome = outcome_of((number / 65536 % 256) as u8);
+    let outcome = outcome_of((word / 65536 % 256) as u8);
     Ending {
         outcome,
-        router: (number % 256) as u8,
-        hops: (number / 256 % 256) as u8,
+        router: (word % 256) as u8,
+        hops: (word / 256 % 256) as u8,
     }
 }
 
-// The packet arrives at a router: its entry is applied. The hops that are left never run out. The ending comes back as one number, so that the
-// compiler makes a loop of the two functions.
+// The packet arrives at a router: its entry is applied. The ending comes back as one number, so that the compiler makes a loop of the two functions.
 fn arrive<'a>(
-    old: &'a [u64; 64],
-    new: &'a [u64; 64],
-    near: &'a [u64; 64],
+    guides: &'a Guides,
     views: &'a [u8; 64],
     destination: u8,
     router: u8,
@@ -159,48 +185,23 @@ fn arrive<'a>(
     left: u8,
     trace: &mut [u8; 64],
 ) -> u32
-    requires { ⌜ Arriving (now old) (now new) (now near) (now views) destination router previous hops left ⌝ }
-    ensures { λ r. ⌜ Arrives (now (old .entry)) (now (new .entry)) (now (near .entry)) (now (views .entry)) destination
+    requires { ⌜ Standing (now guides) router hops left ⌝ }
+    ensures { λ r. ⌜ Arrives (now (guides .entry)) (now (views .entry)) destination
         router previous hops left (now (trace .entry)) r (now (trace .exit)) ⌝ }
 {
     visit(trace, hops, router);
-    let entry = entry_at(old, new, views, destination, router, previous, hops);
+    let entry = entry_at(guides, views, destination, router, previous, hops);
     match entry {
-        Entry::Deliver => number_of(Ending {
-            outcome: Outcome::Delivered,
-            router,
-            hops,
-        }),
-        Entry::Discard => number_of(Ending {
-            outcome: Outcome::Discarded,
-            router,
-            hops,
-        }),
-        Entry::NoRoute => number_of(Ending {
-            outcome: Outcome::NoRoute,
-            router,
-            hops,
-        }),
-        Entry::Forward(hop) => leave(
-            old,
-            new,
-            near,
-            views,
-            destination,
-            router,
-            hop,
-            hops,
-            left,
-            trace,
-        ),
+        Entry::Deliver => ending_word(Outcome::Delivered, router, hops),
+        Entry::Discard => ending_word(Outcome::Discarded, router, hops),
+        Entry::NoRoute => ending_word(Outcome::NoRoute, router, hops),
+        Entry::Forward(hop) => leave(guides, views, destination, router, hop, hops, left, trace),
     }
 }
 
-// The packet leaves a router for a hop: over a link that is not real it is lost.
+// The packet leaves a router for a hop: with no hop left, or over a link that does not carry, it is lost.
 fn leave<'a>(
-    old: &'a [u64; 64],
-    new: &'a [u64; 64],
-    near: &'a [u64; 64],
+    guides: &'a Guides,
     views: &'a [u8; 64],
     destination: u8,
     router: u8,
@@ -209,15 +210,16 @@ fn leave<'a>(
     left: u8,
     trace: &mut [u8; 64],
 ) -> u32
-    requires { ⌜ Leaving (now old) (now new) (now near) (now views) destination router hop hops left ⌝ }
-    ensures { λ r. ⌜ Leaves (now (old .entry)) (now (new .entry)) (now (near .entry)) (now (views .entry)) destination
+    requires { ⌜ Standing (now guides) router hops left ⌝ }
+    ensures { λ r. ⌜ Leaves (now (guides .entry)) (now (views .entry)) destination
         router hop hops left (now (trace .entry)) r (now (trace .exit)) ⌝ }
 {
-    if has(near[router as usize], hop) {
+    if left == 0 {
+        return ending_word(Outcome::Lost, router, hops);
+    }
+    if has(guides[CARRIERS + (router as usize)], hop) {
         return arrive(
-            old,
-            new,
-            near,
+            guides,
             views,
             destination,
             hop,
@@ -227,14 +229,10 @@ fn leave<'a>(
             trace,
         );
     }
-    number_of(Ending {
-        outcome: Outcome::Lost,
-        router,
-        hops,
-    })
+    ending_word(Outcome::Lost, router, hops)
 }
 
-// The 64 places that a walk has for views, or for routers.
+// The 64 places that following has for views, or for routers.
 fn no_bytes() -> [u8; 64]
     ensures { λ r. ⌜ r ≡ replicate 64 0 ⌝ }
 {
@@ -253,33 +251,27 @@ fn hand_over(n: usize, from: &[u8], to: &mut [u8])
     }
 }
 
-// The packet of a question that is not refused: costs are found once per view, the walk reads no table, and the trace is written when it has ended.
-fn journey(
-    old: &[u8],
-    o: Outline,
-    new: &[u8],
-    n: Outline,
+// One packet is followed by the first N - 1 views; the trace is written when it has ended.
+fn follow_packet(
+    guides: &Guides,
+    routers: u8,
     source: u8,
     destination: u8,
     views: &[u8],
     trace: &mut [u8],
 ) -> Ending
-    requires { ⌜ PathAsked (now old) (now new) source destination (now views) (now trace) × (o ≡ outline-of (now old)) × (n ≡ outline-of (now new)) ⌝ }
+    requires { ⌜ Lent (now guides) routers source (now views) (now trace) ⌝ }
     ensures { λ r. ⌜
-        (r ≡ ending-after 0 (trip-of (now (old .entry)) (now (new .entry)) source destination (now (views .entry))))
-        × (now (trace .exit) ≡ written (trip-of (now (old .entry)) (now (new .entry)) source destination (now (views .entry))) (now (trace .entry)))
+        (r ≡ ending-after 0 (path-over (now (guides .entry)) routers source destination (now (views .entry))))
+        × (now (trace .exit) ≡ written (path-over (now (guides .entry)) routers source destination (now (views .entry))) (now (trace .entry)))
         ⌝ }
 {
-    let before = guide_to(old, o, destination);
-    let after = guide_to(new, n, destination);
-    let left = n.routers - 1;
+    let left = routers - 1;
     let mut list = no_bytes();
     hand_over(left as usize, views, &mut list);
     let mut visited = no_bytes();
-    let number = arrive(
-        &before.sets,
-        &after.sets,
-        &after.near,
+    let word = arrive(
+        guides,
         &list,
         destination,
         source,
@@ -288,7 +280,7 @@ fn journey(
         left,
         &mut visited,
     );
-    let ending = ending_of(number);
+    let ending = ending_in(word);
     hand_over((ending.hops as usize) + 1, &visited, trace);
     ending
 }
@@ -319,15 +311,22 @@ fn views_are_bad(views: &[u8], routers: usize) -> bool
     !are_views(&views[..count])
 }
 
-// 9, 11 or 10 for two tables that go together; 0 for none. The trace has room for so many routers.
-fn number_for(routers: u8, source: u64, destination: u64, views: &[u8], room: usize) -> u8
-    requires { ⌜ 0 < routers ⌝ }
-    ensures { λ r. ⌜ r ≡ number-for routers source destination (now (views .entry)) room ⌝ }
+// 9: a source or a destination that is not below N.
+fn numbers_are_bad(routers: u8, source: u64, destination: u64) -> bool
+    ensures { λ r. ⌜ r ≡ bad-numbers routers source destination ⌝ }
 {
     if (routers as u64) <= source {
-        return 9;
+        return true;
     }
-    if (routers as u64) <= destination {
+    (routers as u64) <= destination
+}
+
+// The first of 9, 11 and 10 that refuses, of tables of so many routers, by whether a number is bad, with so many bytes of room for the trace; 0 for none.
+fn path_number(routers: u8, bad: bool, views: &[u8], room: usize) -> u8
+    requires { ⌜ 0 < routers ⌝ }
+    ensures { λ r. ⌜ r ≡ number-in (path-refusals routers bad (now (views .entry)) room) ⌝ }
+{
+    if bad {
         return 9;
     }
     if views_are_bad(views, routers as usize) {
@@ -347,8 +346,15 @@ pub fn path(
     destination: u64,
     views: &[u8],
     trace: &mut [u8],
-) -> Tracing
-    ensures { λ r. ⌜ Traces (now (old .entry)) (now (new .entry)) source destination (now (views .entry)) (now (trace .entry)) r (now (trace .exit)) ⌝ }
+) -> PathAnswer
+    ensures { λ r. ⌜ AnswersPath (record {
+      old = now (old .entry);
+      new = now (new .entry);
+      source = source;
+      destination = destination;
+      views = now (views .entry);
+      trace = now (trace .entry);
+    }) r (now (trace .exit)) ⌝ }
 {
     let pairing = pair(old, new);
     match pairing {
@@ -357,30 +363,24 @@ pub fn path(
             old: o,
             new: n,
         } => {
-            let number = number_for(n.routers, source, destination, views, trace.len());
+            let bad = numbers_are_bad(n.routers, source, destination);
+            let number = path_number(n.routers, bad, views, trace.len());
             if number != 0 {
-                return Tracing::Refused {
+                return PathAnswer::Refused {
                     number,
                     table: 0,
                     place: 0,
                 };
             }
-            Tracing::Ended(journey(
-                old,
-                o,
-                new,
-                n,
-                source as u8,
-                destination as u8,
-                views,
-                trace,
-            ))
+            let to = destination as u8;
+            let guides = guides_to(old, o, new, n, to);
+            PathAnswer::Ended(follow_packet(&guides, n.routers, source as u8, to, views, trace))
         }
         Pairing::Refused {
             number,
             table,
             place,
-        } => Tracing::Refused {
+        } => PathAnswer::Refused {
             number,
             table,
             place,

@@ -18,7 +18,7 @@ fn answer<'a>(q: Question, old: &'a [u8], new: &'a [u8], views: &'a [u8]) {
         b'i' => case_answers::interfaces(old, q.x, q.room),
         b'f' => case_answers::filling(old, q.x, q.room, q.second_room),
         b'c' => case_answers::chosen(q.x),
-        b't' => case_answers::tracing(old, new, q.x, q.y, views, q.room),
+        b't' => case_answers::path(old, new, q.x, q.y, views, q.room),
         b'a' => case_answers::naming(old, q.x),
         b'b' => case_answers::naming_of_two(old, new, q.x),
         _ => {}

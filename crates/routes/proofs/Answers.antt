@@ -1,105 +1,106 @@
--- What the fill answers and what it leaves in the outputs, case by case.
+-- What the fill answers and what it leaves in the outputs: the table is refused, a number refuses, or both outputs are filled.
 -- Assumes nothing.
 use mathlib.Core.Path.{_≡_, sym, _∙_, ap}
 use mathlib.Core.Logic.{_≢_}
-use mathlib.Core.Bool.{Bool, true, false, _||_}
-use mathlib.Core.List.{List, [], _∷_, _++_, map}
+use mathlib.Core.List.{List, _++_}
 use Prim.Native.Nat.{ℕ, _≤_, _<_}
 use native.Mathlib.Omega.{arith}
-use lib.Dec.{ltb}
 use lib.ListN.{length, drop}
-use borrow.Author.Tests.{ltb-false, lt-ltb, le-ltb, le-leb, lt-leb}
-use Rattle.rules.specs.Words.{_when_, below}
-use Rattle.rules.specs.Table.{read, number-of, place-of, says}
-use Rattle.rules.specs.Costs.{cost}
-use Rattle.rules.specs.NextHops.{next-hops}
-use Rattle.rules.specs.Questions.{Answer, answered, refused-with, refusal, answer, afterwards, bad-router, fill-answer, costs-after, sets-after}
+use borrow.Author.Tests.{lt-ltb, le-ltb, le-leb, lt-leb}
+use Rattle.rules.specs.Words.{Line}
+use Rattle.rules.specs.Table.{says}
 use Rattle.rules.specs.Demand1.{IsAccepted}
-use Rattle.rules.proofs.Basics.{neither, length-values}
-use Rattle.rules.proofs.Lines.{line-applies, line-passes, no-lines-left, table-bad, table-good}
-use Rattle.rules.proofs.Refusals.{writes, stays}
-use Rattle.tables.specs.Readings.{outline-of}
+use Rattle.rules.specs.Answers.{Answer, answered, refused-with, number-in}
+use Rattle.rules.specs.FillQuestion.{FillInputs, fill-refusals, fill-answer, filled-costs, filled-sets, costs-after, sets-after}
+use Rattle.rules.proofs.Basics.{length-values}
+use Rattle.rules.proofs.Answers.{refused-stays, answered-writes}
+use Rattle.rules.proofs.FillQuestion.{fill-proved}
+use Rattle.tables.specs.Readings.{outline-of, Reads}
 use Rattle.tables.specs.declared.Outline.{Outline}
-use Rattle.tables.proofs.Asked.{own-routers}
+use Rattle.tables.specs.declared.Reading.{Reading}
+use Rattle.tables.specs.declared.Reading.the-variants as reading
+use Rattle.tables.proofs.Asked.{reading-accepted, own-routers}
+use Rattle.tables.proofs.OnTable.{table-refuses, found-refuses, found-answers}
 use Rattle.routes.specs.declared.Filling.the-variants.{Filled, Refused}
 use Rattle.routes.specs.Fillings.{filling-numbers, Fills}
 
--- an output is too short
-module _ (costs sets n : ℕ) where
-  pub costs-short : costs < n → true ≡ (ltb costs n || ltb sets n)
-  costs-short h = rw (lt-ltb costs n h)
+-- ---- 9 and 10
 
-  pub sets-decide : n ≤ costs → ltb sets n ≡ (ltb costs n || ltb sets n)
-  sets-decide h = rw (le-ltb costs n h)
+module _ (n d costs sets : ℕ) where
+  pub destination-bad : n ≤ d → 9 ≡ number-in (fill-refusals n d costs sets)
+  unfolding fill-refusals
+  destination-bad h = rw (le-leb n d h)
 
-  pub roomy : (short : Bool) → short ≡ (ltb costs n || ltb sets n) → short ≡ false → (n ≤ costs) × (n ≤ sets)
-  roomy short s e =
-      let t = neither (ltb costs n) (ltb sets n) (sym s ∙ e) in
-      (ltb-false costs n (t .0), ltb-false sets n (t .1))
+  module _ (b : d < n) where
+    pub costs-short : costs < n → 10 ≡ number-in (fill-refusals n d costs sets)
+    unfolding fill-refusals
+    costs-short h = rw (lt-leb n d b, lt-ltb costs n h)
 
-module _ (table : List ℕ) (d : ℕ) (costs sets : List ℕ) where
+    module _ (c : n ≤ costs) where
+      pub sets-short : sets < n → 10 ≡ number-in (fill-refusals n d costs sets)
+      unfolding fill-refusals
+      sets-short h = rw (lt-leb n d b, le-ltb costs n c, lt-ltb sets n h)
+
+      pub roomy : n ≤ sets → 0 ≡ number-in (fill-refusals n d costs sets)
+      unfolding fill-refusals
+      roomy h = rw (lt-leb n d b, le-ltb costs n c, le-ltb sets n h)
+
+-- ---- the answer
+
+module _ (q : FillInputs) where
   -- a refusal leaves what was lent
-  refused : (number place : ℕ) → number ≢ 0 → fill-answer table d costs sets ≡ refused-with 0 number 0 place
-      → Fills table d costs sets (Refused number place) costs sets
+  refused : (number place : ℕ) → number ≢ 0 → fill-answer q ≡ refused-with 0 number 0 place → Fills q (Refused number place) (q .costs) (q .sets)
   unfolding filling-numbers costs-after sets-after
-  refused number place n e = (sym e, n, sym (stays (fill-answer table d costs sets) _ costs m), sym (stays (fill-answer table d costs sets) _ sets m))
-    where
-      m : fill-answer table d costs sets .refusal .number ≢ 0
-      m z = n (sym (ap (λ (a : Answer ℕ). a .refusal .number) e) ∙ z)
+  refused number place m e = (sym e, m, refused-stays _ _ _ 0 number 0 place e m, refused-stays _ _ _ 0 number 0 place e m)
 
-  pub table-refused : (number place : ℕ) → (number-of (read table) ≡ number) × (place-of (read table) ≡ place) × (number ≢ 0)
-      → Fills table d costs sets (Refused number place) costs sets
+  abbrev n : ℕ
+  n = says (q .table) .routers
+
+  -- 9 and 10 of a table of so many routers
+  abbrev refusals : ℕ → List (Line ℕ)
+  refusals routers = fill-refusals routers (q .destination) (length (q .costs)) (length (q .sets))
+
+  pub table-refused : (r : Reading) (number place : ℕ) → Reads (q .table) r → r ≡ reading.Refused number place
+      → Fills q (Refused number place) (q .costs) (q .sets)
   unfolding fill-answer
-  table-refused number place (e, p, n) = refused number place n (table-bad _ _ 0 table _ number place e p n)
+  table-refused r number place p e =
+      let (x, m) = table-refuses 0 n (q .table) refusals r number place p e in
+      refused number place m x
 
-  module _ (a : IsAccepted table) (t : Outline) (q : t ≡ outline-of table) where
-    abbrev routers : ℕ
-    routers = says table .routers
-
-    same : t .routers ≡ routers
-    same = own-routers table t q
-
-    -- only 9 and 10 are left to be asked
-    good : fill-answer table d costs sets
-        ≡ answer (refusal 9 when bad-router routers d ∷ refusal 10 when (ltb (length costs) routers || ltb (length sets) routers) ∷ []) 0 routers
+  module _ (r : Reading) (t : Outline) (p : Reads (q .table) r) (o : r ≡ reading.Accepted t) (number : ℕ) (e : number ≡ number-in (refusals (t .routers))) where
+    pub number-refused : number ≢ 0 → Fills q (Refused number 0) (q .costs) (q .sets)
     unfolding fill-answer
-    good = table-good _ _ 0 table _ a
+    number-refused m = refused number 0 m (found-refuses 0 n (q .table) refusals r t p o number e m)
 
-    pub router-refused : t .routers ≤ d → Fills table d costs sets (Refused 9 0) costs sets
-    router-refused h =
-        refused 9 0 (omega arith)
-        (good ∙ line-applies _ _ (refusal 9 when bad-router routers d) _ (le-leb routers d (omega (arith, same))) (omega arith))
+    module _ (z : number ≡ 0) where
+      answers : fill-answer q ≡ answered n
+      unfolding fill-answer
+      answers = found-answers 0 n (q .table) refusals r t p o number e z
 
-    module _ (b : d < t .routers) (short : Bool) (s : short ≡ (ltb (length costs) (t .routers) || ltb (length sets) (t .routers))) where
-      -- only 10 is left to be asked
-      inside : fill-answer table d costs sets ≡ answer (refusal 10 when short ∷ []) 0 routers
-      inside =
-          good
-          ∙ line-passes _ _ (refusal 9 when bad-router routers d) _ (lt-leb routers d (omega (arith, same)))
-          ∙ ap (λ t. answer (refusal 10 when t ∷ []) 0 routers) (sym (s ∙ ap (λ n. ltb (length costs) n || ltb (length sets) n) same))
+      a : IsAccepted (q .table) × (t ≡ outline-of (q .table))
+      a = reading-accepted (q .table) r t p o
 
-      pub refused-10 : short ≡ true → Fills table d costs sets (Refused 10 0) costs sets
-      refused-10 e = refused 10 0 (omega arith) (inside ∙ line-applies _ _ (refusal 10 when short) [] e (omega arith))
+      same : t .routers ≡ n
+      same = own-routers (q .table) t (a .1)
 
-      module _ (enough : short ≡ false) where
-        pub filled : (costs′ sets′ : List ℕ)
-            → costs′ ≡ map (λ i. cost (says table) i d) (below (t .routers)) ++ drop (t .routers) costs
-            → sets′ ≡ map (λ i. next-hops (says table) i d) (below (t .routers)) ++ drop (t .routers) sets
-            → Fills table d costs sets (Filled (t .routers)) costs′ sets′
-        unfolding filling-numbers costs-after sets-after
-        filled costs′ sets′ x y = (
-          ap answered same ∙ sym e,
-          tt,
-          x ∙ holds (λ i. cost (says table) i d) costs,
-          y ∙ holds (λ i. next-hops (says table) i d) sets,
-        )
-          where
-            e : fill-answer table d costs sets ≡ answered routers
-            e = inside ∙ line-passes _ _ (refusal 10 when short) [] enough ∙ no-lines-left _ _
+      -- what the table, 9 and 10 ask for
+      pub asked : IsAccepted (q .table)
+          × (t ≡ outline-of (q .table))
+          × (q .destination < t .routers)
+          × (t .routers ≤ length (q .costs))
+          × (t .routers ≤ length (q .sets))
+      asked =
+          let (accepted, (below, (room, end))) = fill-proved q .exactly .asked .0 (ap (λ (a : Answer ℕ). a .refusal .number) answers) in
+          (a .0, a .1, omega (arith, same), omega (arith, same, room), omega (arith, same, room))
 
-            holds : (f : ℕ → ℕ) (lent : List ℕ)
-                → map f (below (t .routers)) ++ drop (t .routers) lent ≡ afterwards (fill-answer table d costs sets) (map f (below routers)) lent
-            holds f lent =
-                ap (λ (n : ℕ). map f (below n) ++ drop n lent) same
-                ∙ ap (λ (n : ℕ). map f (below routers) ++ drop n lent) (sym (length-values f routers))
-                ∙ sym (writes (fill-answer table d costs sets) (map f (below routers)) lent (ap (λ (a : Answer ℕ). a .refusal .number) e))
+      pub filled : (costs sets : List ℕ)
+          → costs ≡ filled-costs (says (q .table)) (q .destination) ++ drop (t .routers) (q .costs)
+          → sets ≡ filled-sets (says (q .table)) (q .destination) ++ drop (t .routers) (q .sets)
+          → Fills q (Filled (t .routers)) costs sets
+      unfolding filling-numbers costs-after sets-after
+      filled costs sets x y = (
+        ap answered same ∙ sym answers,
+        tt,
+        x ∙ answered-writes _ _ _ _ (t .routers) answers (length-values _ _ ∙ sym same),
+        y ∙ answered-writes _ _ _ _ (t .routers) answers (length-values _ _ ∙ sym same),
+      )

@@ -1,38 +1,37 @@
--- Every promise of this crate allows one answer: two results, and two pairs of outputs afterwards, that it allows are equal.
+-- Every promise of this crate allows one answer: each case is had again from its numbers, and the outputs are what a definition says.
 -- Assumes nothing.
-use mathlib.Core.Path.{_≡_, sym, _∙_, ap}
-use mathlib.Core.List.{List, map}
+use mathlib.Core.Path.{_≡_, refl, sym, _∙_}
+use mathlib.Core.List.{List}
 use Prim.Native.Nat.{ℕ}
-use Rattle.rules.specs.Words.{below}
+use Rattle.rules.specs.Words.{_=?_, pick}
+use Rattle.rules.specs.Answers.{Answer}
+use Rattle.rules.specs.FillQuestion.{FillInputs}
 use Rattle.rules.specs.Promises.{Settles}
-use Rattle.rules.proofs.Uniqueness.{value-settled}
-use Rattle.webs.specs.Webs.{web-weight}
+use Rattle.rules.proofs.Uniqueness.{value-settled, numbers-settle, refused-again}
 use Rattle.webs.specs.declared.Web.{Web}
-use Rattle.search.specs.Search.{cost-at, hops-over}
 use Rattle.routes.specs.declared.Filling.{Filling}
 use Rattle.routes.specs.declared.Filling.the-variants.{Filled, Refused}
 use Rattle.routes.specs.Fillings.{filling-numbers, Numbered, Fills}
+use Rattle.routes.specs.Hops.{FindsHops, FindsSets}
 
--- answers, and refusals with a number, are told apart by their numbers
-pub filling-apart : (x y : Filling) → Numbered x → Numbered y → filling-numbers x ≡ filling-numbers y → x ≡ y
-unfolding filling-numbers
-filling-apart (Filled routers) (Filled routers′) p q e = λ i. Filled (e i .values)
-filling-apart (Filled routers) (Refused number place) p q e = absurd (q (sym (ap (λ a. a .refusal .number) e)))
-filling-apart (Refused number place) (Filled routers) p q e = absurd (p (ap (λ a. a .refusal .number) e))
-filling-apart (Refused number place) (Refused number′ place′) p q e = λ i. Refused (e i .refusal .number) (e i .refusal .place)
+filling-from : Answer ℕ → Filling
+filling-from a = pick (a .refusal .number =? 0) (Filled (a .values)) (Refused (a .refusal .number) (a .refusal .place))
+
+filling-again : (x : Filling) → Numbered x → filling-from (filling-numbers x) ≡ x
+unfolding filling-from filling-numbers
+filling-again (Filled routers) own = refl
+filling-again (Refused number place) own = refused-again _ _ _ own
 
 -- the answer, and both outputs afterwards
-pub fill-settled : (table : List ℕ) (d : ℕ) (costs sets : List ℕ)
-    → Settles (λ (all : Filling × List ℕ × List ℕ). Fills table d costs sets (all .0) (all .1) (all .2))
-fill-settled table d costs sets x y p q = λ i. (
-  filling-apart (x .0) (y .0) (p .1) (q .1) (p .0 ∙ sym (q .0)) i,
-  (p .2 ∙ sym (q .2)) i,
-  (p .3 ∙ sym (q .3)) i,
+pub fill-settled : (q : FillInputs) → Settles (λ (all : Filling × List ℕ × List ℕ). Fills q (all .0) (all .1) (all .2))
+fill-settled q x y p r = λ i. (
+  numbers-settle _ _ filling-numbers Numbered filling-from filling-again _ (x .0) (y .0) (p .0, p .1) (r .0, r .1) i,
+  (p .2 ∙ sym (r .2)) i,
+  (p .3 ∙ sym (r .3)) i,
 )
 
-pub next-hops-settled : (web : Web) (costs : List ℕ) (router : ℕ) → Settles (λ r. r ≡ hops-over (web-weight web) (cost-at costs) router)
+pub next-hops-settled : (web : Web) (costs : List ℕ) (router : ℕ) → Settles (FindsHops web costs router)
 next-hops-settled web costs router = value-settled _
 
-pub sets-by-settled : (web : Web) (costs : List ℕ)
-    → Settles (λ r. r ≡ map (hops-over (web-weight web) (cost-at costs)) (below 64))
+pub sets-by-settled : (web : Web) (costs : List ℕ) → Settles (FindsSets web costs)
 sets-by-settled web costs = value-settled _

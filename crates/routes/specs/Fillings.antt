@@ -2,7 +2,8 @@
 use mathlib.Core.Path.{_≡_}
 use mathlib.Core.List.{List}
 use Prim.Native.Nat.{ℕ}
-use Rattle.rules.specs.Questions.{Answer, answered, refused-with, IsNumber, fill-answer, costs-after, sets-after}
+use Rattle.rules.specs.Answers.{Answer, answered, refused-with, IsNumber}
+use Rattle.rules.specs.FillQuestion.{FillInputs, fill-answer, costs-after, sets-after}
 use Rattle.routes.specs.declared.Filling.{Filling}
 use Rattle.routes.specs.declared.Filling.the-variants.{Filled, Refused}
 
@@ -17,9 +18,5 @@ Numbered (Filled routers) = Unit {0}
 Numbered (Refused number place) = IsNumber number
 
 -- r answers the fill, and the two outputs hold afterwards what they are to hold
-abbrev pub Fills : List ℕ → ℕ → List ℕ → List ℕ → Filling → List ℕ → List ℕ → Type 0
-Fills table d costs sets r costs′ sets′ =
-    (filling-numbers r ≡ fill-answer table d costs sets)
-    × Numbered r
-    × (costs′ ≡ costs-after table d costs sets)
-    × (sets′ ≡ sets-after table d costs sets)
+abbrev pub Fills : FillInputs → Filling → List ℕ → List ℕ → Type 0
+Fills q r costs sets = (filling-numbers r ≡ fill-answer q) × Numbered r × (costs ≡ costs-after q) × (sets ≡ sets-after q)

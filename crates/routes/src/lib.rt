@@ -1,19 +1,19 @@
 // Next-hop sets over a web, and the fill: costs and sets of one destination.
 ghost use mathlib.Core.Path.{_≡_};
-ghost use mathlib.Core.Bool.{_||_};
-ghost use mathlib.Core.List.{_++_, map};
+ghost use mathlib.Core.List.{_++_};
 ghost use Prim.Native.Nat.{_^_, _<_, _≤_};
 ghost use lib.ListN.{length, take, drop};
-ghost use Rattle.rules.specs.Words.{_<?_, pick, below};
+ghost use Rattle.rules.specs.Words.{pick};
 ghost use Rattle.rules.specs.Table.{says};
-ghost use Rattle.rules.specs.Costs.{cost};
-ghost use Rattle.rules.specs.NextHops.{next-hops};
 ghost use Rattle.rules.specs.Demand1.{IsAccepted};
+ghost use Rattle.rules.specs.Answers.{number-in};
+ghost use Rattle.rules.specs.FillQuestion.{fill-refusals, filled-costs, filled-sets};
 ghost use Rattle.tables.specs.Readings.{outline-of};
-ghost use Rattle.webs.specs.Webs.{weight-over, web-weight, IsWeb};
+ghost use Rattle.webs.specs.Webs.{weight-over, IsWeb};
 ghost use Rattle.search.specs.Search.{as-cheap, hops-over, cost-at};
 ghost use Rattle.search.specs.Steps.{AreCosts};
 ghost use Rattle.routes.specs.Fillings.{Fills};
+ghost use Rattle.routes.specs.Hops.{FindsHops, FindsSets};
 use search::costs_from;
 use sets::no_sets;
 use tables::Outline;
@@ -58,7 +58,7 @@ fn hops_at<'a>(near: &'a [u64; 64], weights: &'a [u16; 4096], costs: &'a [u32; 6
 
 // The next-hop set of one router, by the costs to a destination.
 pub fn next_hops(web: Web, costs: [u32; 64], router: u8) -> u64
-    ensures { λ r. ⌜ r ≡ hops-over (web-weight web) (cost-at costs) router ⌝ }
+    ensures { λ r. ⌜ FindsHops web costs router r ⌝ }
 {
     if 64 <= router {
         return 0;
@@ -68,7 +68,7 @@ pub fn next_hops(web: Web, costs: [u32; 64], router: u8) -> u64
 
 // The next-hop sets of all routers, by the costs to a destination: the set of each router in turn.
 pub fn sets_by(web: Web, costs: [u32; 64]) -> [u64; 64]
-    ensures { λ r. ⌜ r ≡ map (hops-over (web-weight web) (cost-at costs)) (below 64) ⌝ }
+    ensures { λ r. ⌜ FindsSets web costs r ⌝ }
 {
     let mut sets = no_sets();
     let mut i = 0;
@@ -96,10 +96,8 @@ fn hand_over(n: usize, found: [u32; 64], hops: [u64; 64], costs: &mut [u32], set
 fn fill_accepted(table: &[u8], t: Outline, destination: u8, costs: &mut [u32], sets: &mut [u64])
     requires { ⌜ IsAccepted (now table) × (t ≡ outline-of (now table)) × (destination < t .routers)
         × (t .routers ≤ length (now costs)) × (t .routers ≤ length (now sets)) ⌝ }
-    ensures { λ _. ⌜
-        (now (costs .exit) ≡ map (λ i. cost (says (now (table .entry))) i destination) (below (t .routers)) ++ drop (t .routers) (now (costs .entry)))
-        × (now (sets .exit) ≡ map (λ i. next-hops (says (now (table .entry))) i destination) (below (t .routers)) ++ drop (t .routers) (now (sets .entry)))
-        ⌝ }
+    ensures { λ _. ⌜ (now (costs .exit) ≡ filled-costs (says (now (table .entry))) destination ++ drop (t .routers) (now (costs .entry)))
+        × (now (sets .exit) ≡ filled-sets (says (now (table .entry))) destination ++ drop (t .routers) (now (sets .entry))) ⌝ }
 {
     let web = web_of(table, t);
     let found = costs_from(web, destination);
@@ -107,34 +105,34 @@ fn fill_accepted(table: &[u8], t: Outline, destination: u8, costs: &mut [u32], s
     hand_over(t.routers as usize, found, hops, costs, sets);
 }
 
-// 10: one of the outputs has fewer than N places.
-fn is_short(costs: usize, sets: usize, routers: usize) -> bool
-    ensures { λ r. ⌜ r ≡ (costs <? routers || sets <? routers) ⌝ }
+// The first of 9 and 10 that refuses, of a table of so many routers, with so many places for costs and for sets; 0 for none.
+fn fill_number(routers: u8, destination: u64, costs: usize, sets: usize) -> u8
+    ensures { λ r. ⌜ r ≡ number-in (fill-refusals routers destination costs sets) ⌝ }
 {
-    if costs < routers {
-        return true;
+    if (routers as u64) <= destination {
+        return 9;
     }
-    sets < routers
+    if costs < (routers as usize) {
+        return 10;
+    }
+    if sets < (routers as usize) {
+        return 10;
+    }
+    0
 }
 
 // The fill: N costs and N sets of a destination.
 pub fn fill(table: &[u8], destination: u64, costs: &mut [u32], sets: &mut [u64]) -> Filling
-    ensures { λ r. ⌜ Fills (now (table .entry)) destination (now (costs .entry)) (now (sets .entry)) r (now (costs .exit)) (now (sets .exit)) ⌝ }
+    ensures { λ r. ⌜
+        Fills (record { table = now (table .entry); destination = destination; costs = now (costs .entry); sets = now (sets .entry) }) r
+        (now (costs .exit)) (now (sets .exit)) ⌝ }
 {
     let reading = read(table);
     match reading {
         Reading::Accepted(t) => {
-            if (t.routers as u64) <= destination {
-                return Filling::Refused {
-                    number: 9,
-                    place: 0,
-                };
-            }
-            if is_short(costs.len(), sets.len(), t.routers as usize) {
-                return Filling::Refused {
-                    number: 10,
-                    place: 0,
-                };
+            let number = fill_number(t.routers, destination, costs.len(), sets.len());
+            if number != 0 {
+                return Filling::Refused { number, place: 0 };
             }
             fill_accepted(table, t, destination as u8, costs, sets);
             Filling::Filled(t.routers)

@@ -14,12 +14,12 @@ use Rattle.rules.specs.Links.{weight}
 use Rattle.rules.specs.Costs.{no-cost, cost}
 use Rattle.rules.specs.NextHops.{has, next-hops}
 use Rattle.rules.specs.Entries.{Entry, discard, no-route, forward, starts-here}
-use Rattle.rules.specs.Paths.{new-view, Choice, outcome-code, delivered, unrouted, Trip, ended, Site}
+use Rattle.rules.specs.Paths.{new-view, Choice, outcome-code, delivered, unrouted, Path, ended, Site}
 use Rattle.rules.specs.Demand3.{Follows, delivers, discards, has-none, loses, crosses, Together, Permitted, Willing, total, AtLeastCost}
 use Rattle.rules.proofs.CostLaws.{Next}
 use Rattle.rules.proofs.Sets.{has-next}
 use Rattle.rules.proofs.Entries.{Enters, at-home, cut-off, drops, sends, entered, delivers-home}
-use Rattle.rules.proofs.LoopFree.{begins, one-trip, laws}
+use Rattle.rules.proofs.LoopFree.{begins, one-path, laws}
 
 -- the total weight of one hop more
 total-more : (w : ℕ → ℕ → ℕ) (i k : ℕ) (is ks : List ℕ) → is ≡ k ∷ ks → total w (i ∷ is) ≡ w i k + total w is
@@ -60,8 +60,8 @@ module _ {old new : Table} {d : ℕ} {site : Site} (𝓣 : Together old new) (�
       (m, has-next new (𝓣 .new-obeys) i d (site .rules new-view .hop i j) .0 m)
 
   -- the cost falls by the weight of each link crossed
-  arrives : {n i j : ℕ} {trip : Trip} → Follows site always-new n i j trip → Fair j i → cost new i d < no-cost
-      → (trip .outcome ≡ delivered) × (trip .router ≡ d) × (total (weight new) (trip .trace) ≡ cost new i d)
+  arrives : {n i j : ℕ} {path : Path} → Follows site always-new n i j path → Fair j i → cost new i d < no-cost
+      → (path .outcome ≡ delivered) × (path .router ≡ d) × (total (weight new) (path .trace) ≡ cost new i d)
   unfolding total
   arrives (delivers {i} {j} e) g f =
       let q : i ≡ d = delivers-home (site .rules new-view) i j (site .destination) e ∙ 𝓟 .for-d in
@@ -84,15 +84,15 @@ module _ {old new : Table} {d : ℕ} {site : Site} (𝓣 : Together old new) (�
   tells j i (sends q r t) a c = absurd (omega (arith, finite i q r))
 
   -- where there is no route the source tells it
-  told : (j i : ℕ) {trip : Trip} → Follows site always-new 0 i j trip → cost new i d ≡ no-cost → trip ≡ ended unrouted i
+  told : (j i : ℕ) {path : Path} → Follows site always-new 0 i j path → cost new i d ≡ no-cost → path ≡ ended unrouted i
   told j i f c =
       let a : i ≢ d = λ q. omega (arith, laws 𝓣 d new-view .home, ap (λ z. cost new z d) q) in
-      one-trip f (has-none (tells j i (entered (site .rules new-view) i j (site .destination) refl) a c))
+      one-path f (has-none (tells j i (entered (site .rules new-view) i j (site .destination) refl) a c))
 
-  pub at-least-cost : (s : ℕ) {trip : Trip} → Follows site always-new 0 s starts-here trip → AtLeastCost new s d trip
-  at-least-cost s {trip} f = go (decLt (cost new s d) no-cost)
+  pub at-least-cost : (s : ℕ) {path : Path} → Follows site always-new 0 s starts-here path → AtLeastCost new s d path
+  at-least-cost s {path} f = go (decLt (cost new s d) no-cost)
     where
-      go : Dec (cost new s d < no-cost) → AtLeastCost new s d trip
+      go : Dec (cost new s d < no-cost) → AtLeastCost new s d path
       go (yes l) =
           let a = arrives f (inl refl) l in
           record {

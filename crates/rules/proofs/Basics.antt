@@ -119,6 +119,10 @@ module _ {A : Type 0} where
   All-append P [] ys g h = h
   All-append P (x ∷ xs) ys g h = (g .0, All-append P xs ys (g .1) h)
 
+  pub All-parts : (P : A → Type 0) (xs ys : List A) → All P (xs ++ ys) → All P xs × All P ys
+  All-parts P [] ys h = (tt, h)
+  All-parts P (x ∷ xs) ys h = let (f, g) = All-parts P xs ys (h .1) in ((h .0, f), g)
+
   -- of those before an element, and of it
   pub All-before : (P : A → Type 0) (xs : List A) (y : A) (ys : List A) → All P (xs ++ (y ∷ ys)) → All P xs × P y
   All-before P [] y ys h = (tt, h .0)
@@ -150,6 +154,15 @@ module _ {A : Type 0} where
       last : (xs : List A) → All (λ n. f x < n) (map f (xs ++ (y ∷ ys))) → f x < f y
       last [] h = h .0
       last (x ∷ xs) h = last xs (h .1)
+
+  -- where values rise below n there are at most n
+  pub rising-few : (f : A → ℕ) (n : ℕ) (xs : List A) → Rising (map f xs) → All (λ x. f x < n) xs → length xs ≤ n
+  rising-few f n [] r b = omega arith
+  rising-few f n (x ∷ xs) r b = omega (arith, behind x xs (r .0) (r .1) (b .0) (b .1))
+    where
+      behind : (x : A) (xs : List A) → All (λ k. f x < k) (map f xs) → Rising (map f xs) → f x < n → All (λ y. f y < n) xs → f x + suc (length xs) ≤ n
+      behind x [] a r l b = omega arith
+      behind x (y ∷ xs) a r l b = omega (arith, a .0, behind y xs (r .0) (r .1) (b .0) (b .1))
 
   -- tests that agree on every element count as many, and none counts more than there are
   pub tally-same : (p q : A → Bool) (xs : List A) → All (λ x. p x ≡ q x) xs → tally p xs ≡ tally q xs

@@ -13,38 +13,38 @@ use Rattle.rules.specs.Layout.{Table, Obeys}
 use Rattle.rules.specs.Links.{weight}
 use Rattle.rules.specs.NextHops.{has, next-hops}
 use Rattle.rules.specs.Entries.{entry-by, rules-of, starts-here, entry}
-use Rattle.rules.specs.Paths.{View, new-view, by, Choice, Trip, Site, journey, site-of, path}
+use Rattle.rules.specs.Paths.{View, new-view, by, Choice, Packet, Path, Site, path-in, site-of, path}
 use Rattle.rules.specs.Demand3.{Follows, Together, Permitted, Willing, EachHop, Loopless, Demand3ForAnyRules, Demand3OfPath}
 use Rattle.rules.proofs.Sets.{has-below, has-next, sets-fit}
 use Rattle.rules.proofs.Entries.{chosen-leads}
-use Rattle.rules.proofs.LoopFree.{bounded, one-trip, obeys, follows, loopless}
+use Rattle.rules.proofs.LoopFree.{bounded, one-path, obeys, follows, loopless}
 use Rattle.rules.proofs.AllNew.{always-new, at-least-cost}
 use Rattle.rules.proofs.ViewLists.{same-views, views-of, views-length, views-good, listed-follows}
 
 pub demand3-for-any-rules : Demand3ForAnyRules
-unfolding journey
+unfolding path-in
 demand3-for-any-rules old new s d site choice 𝓣 b h 𝓟 = record {
   loopless = free;
-  only = λ trip g. one-trip g f;
+  only = λ found g. one-path g f;
   all-new = λ 𝓦 all. at-least-cost 𝓣 𝓟 𝓦 s (same-views site choice always-new f (λ m l. rw (zero-add m) (sym (all m l))));
   early = λ choice′ same.
-      bounded (same-views site choice choice′ f (λ m l. rw (zero-add m) (same (getD (trip .trace) m 255) m (omega (arith, free .enough)))))
+      bounded (same-views site choice choice′ f (λ m l. rw (zero-add m) (same (getD (found .trace) m 255) m (omega (arith, free .enough)))))
       (new .routers - 1) (omega (arith, free .few));
   some-list = (
-    views-of choice (new .routers - 1) (trip .trace),
-    views-length choice (new .routers - 1) (trip .trace),
-    views-good choice (new .routers - 1) (trip .trace),
+    views-of choice (new .routers - 1) (found .trace),
+    views-length choice (new .routers - 1) (found .trace),
+    views-good choice (new .routers - 1) (found .trace),
     bounded (listed-follows site choice starts-here s (new .routers - 1) f (free .enough)) (new .routers - 1) (omega (arith, free .few)),
   );
 }
   where
-    trip : Trip
-    trip = journey (new .routers) site choice s
+    found : Path
+    found = path-in (new .routers) site choice s
 
-    f : Follows site choice 0 s starts-here trip
+    f : Follows site choice 0 s starts-here found
     f = follows 𝓣 𝓟 choice starts-here s b
 
-    free : Loopless (new .routers) s site choice trip
+    free : Loopless (new .routers) s site choice found
     free = loopless 𝓣 𝓟 choice s b h f
 
 -- ---- document 01's rules
@@ -90,23 +90,28 @@ EachHop-map P Q f (i ∷ []) h = tt
 EachHop-map P Q f (i ∷ k ∷ ks) h = (f i k (h .0), EachHop-map P Q f (k ∷ ks) (h .1))
 
 -- the site of document 01 is one
-site-by-views : (old new : Table) (d : ℕ) → ByViews old new d (site-of old new d)
+site-by-views : (packet : Packet) → ByViews (packet .old) (packet .new) (packet .destination) (site-of packet)
 unfolding site-of
-site-by-views old new d = (refl, λ v. refl)
+site-by-views packet = (refl, λ v. refl)
 
 -- and its links are those of the new table
-carries-new : (old new : Table) (d i k : ℕ) → (site-of old new d .carries i k ≡ true) ↔ (0 < weight new i k)
+carries-new : (packet : Packet) (i k : ℕ) → (site-of packet .carries i k ≡ true) ↔ (0 < weight (packet .new) i k)
 unfolding site-of
-carries-new old new d i k = (ltb-true 0 (weight new i k), lt-ltb 0 (weight new i k))
+carries-new packet i k = (ltb-true 0 (weight (packet .new) i k), lt-ltb 0 (weight (packet .new) i k))
 
-pub demand3-of-path : (old new : Table) (s d : ℕ) (choice : Choice) → Together old new → s < new .routers → d < new .routers → Demand3OfPath old new s d choice
+pub demand3-of-path : (packet : Packet) (choice : Choice)
+    → Together (packet .old) (packet .new)
+    → packet .source < packet .new .routers
+    → packet .destination < packet .new .routers
+    → Demand3OfPath packet choice
 unfolding entry
-demand3-of-path old new s d choice 𝓣 b h =
-    let own = site-by-views old new d in
-    let 𝓓 = demand3-for-any-rules old new s d (site-of old new d) choice 𝓣 b h (rules-permitted 𝓣 d (site-of old new d) own) in
+demand3-of-path packet choice 𝓣 b h =
+    let own = site-by-views packet in
+    let d = packet .destination in
+    let 𝓓 = demand3-for-any-rules _ _ (packet .source) d (site-of packet) choice 𝓣 b h (rules-permitted 𝓣 d (site-of packet) own) in
     record {
       general = 𝓓;
       by-entries = λ v i j. ap (λ r. entry-by r i j d) (own .1 v);
-      over-new-links = EachHop-map _ _ (λ i k. carries-new old new d i k .0) (path old new choice s d .trace) (𝓓 .loopless .over-links);
-      all-new = 𝓓 .all-new (rules-willing 𝓣 d (site-of old new d) own (λ i k. carries-new old new d i k .1));
+      over-new-links = EachHop-map _ _ (λ i k. carries-new packet i k .0) (path packet choice .trace) (𝓓 .loopless .over-links);
+      all-new = 𝓓 .all-new (rules-willing 𝓣 d (site-of packet) own (λ i k. carries-new packet i k .1));
     }

@@ -75,7 +75,7 @@ steps kept place left =
     })
 
 -- a good record is what the step gives
-step-good : (kept : Kept) (place : ℕ) (left : List ℕ) → Good kept left
+pub step-good : (kept : Kept) (place : ℕ) (left : List ℕ) → Good kept left
     → step kept place left ≡ good (record-in place left) (place + 3 + size-in left)
 unfolding step
 step-good kept place left g =

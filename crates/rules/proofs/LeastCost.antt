@@ -109,7 +109,7 @@ module _ (w : ℕ → ℕ → ℕ) where
       go (yes l) ih = rw (min-eq-left l) (ih i d (omega arith))
       go (no l) ih = rw (min-eq-right (le-of-lt (lt-of-not-le l))) (join (ih i m (omega arith)) (ih m d (omega arith)))
 
-  -- the way over a router below m is no shorter
+  -- the route over a router below m is no cheaper
   best-over : (m i z d : ℕ) → z < m → best w m i d ≤ best w m i z + best w m z d
   unfolding best
   best-over zero i z d h = omega arith

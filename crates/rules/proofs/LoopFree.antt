@@ -13,27 +13,7 @@ use Rattle.rules.specs.Layout.{Table, Obeys}
 use Rattle.rules.specs.Links.{weight}
 use Rattle.rules.specs.Costs.{no-cost, cost}
 use Rattle.rules.specs.Entries.{Entry, deliver, discard, no-route, forward, entry-by, starts-here}
-use Rattle.rules.specs.Paths.{
-  View,
-  old-view,
-  new-view,
-  by,
-  Choice,
-  Outcome,
-  outcome-code,
-  delivered,
-  discarded,
-  unrouted,
-  lost,
-  Trip,
-  ended,
-  crossed,
-  Site,
-  leave,
-  arrive,
-  entry-at,
-  follow,
-}
+use Rattle.rules.specs.Paths.{View, old-view, new-view, by, Choice, Outcome, outcome-code, delivered, discarded, unrouted, lost, Path, ended, crossed, Site, leave, arrive, entry-at, follow}
 use Rattle.rules.specs.Demand3.{Follows, delivers, discards, has-none, loses, crosses, Together, Permitted, EachHop, deciders, Loopless}
 use Rattle.rules.proofs.Basics.{All-there, pigeonhole}
 use Rattle.rules.proofs.CostLaws.{Net, BothWays, Costs}
@@ -61,14 +41,14 @@ more-hops P i k is ks e p h =
 
 module _ {site : Site} {choice : Choice} where
   -- the trace begins where the packet stands
-  pub begins : {n i j : ℕ} {trip : Trip} → Follows site choice n i j trip → (ks : List ℕ) × (trip .trace ≡ i ∷ ks)
+  pub begins : {n i j : ℕ} {path : Path} → Follows site choice n i j path → (ks : List ℕ) × (path .trace ≡ i ∷ ks)
   begins (delivers e) = ([], refl)
   begins (discards e) = ([], refl)
   begins (has-none e) = ([], refl)
   begins (loses e f) = ([], refl)
   begins (crosses {onward = onward} e f r) = (onward .trace, refl)
 
-  pub counted : {n i j : ℕ} {trip : Trip} → Follows site choice n i j trip → length (trip .trace) ≡ suc (trip .hops)
+  pub counted : {n i j : ℕ} {path : Path} → Follows site choice n i j path → length (path .trace) ≡ suc (path .hops)
   counted (delivers e) = refl
   counted (discards e) = refl
   counted (has-none e) = refl
@@ -76,7 +56,7 @@ module _ {site : Site} {choice : Choice} where
   counted (crosses e f r) = ap suc (counted r)
 
   -- it ends where the packet ended
-  finished : {n i j : ℕ} {trip : Trip} → Follows site choice n i j trip → getD (trip .trace) (trip .hops) 255 ≡ trip .router
+  finished : {n i j : ℕ} {path : Path} → Follows site choice n i j path → getD (path .trace) (path .hops) 255 ≡ path .router
   finished (delivers e) = refl
   finished (discards e) = refl
   finished (has-none e) = refl
@@ -84,7 +64,7 @@ module _ {site : Site} {choice : Choice} where
   finished (crosses e f r) = finished r
 
   -- every link crossed carries
-  carried : {n i j : ℕ} {trip : Trip} → Follows site choice n i j trip → EachHop (λ i k. site .carries i k ≡ true) (trip .trace)
+  carried : {n i j : ℕ} {path : Path} → Follows site choice n i j path → EachHop (λ i k. site .carries i k ≡ true) (path .trace)
   carried (delivers e) = tt
   carried (discards e) = tt
   carried (has-none e) = tt
@@ -94,7 +74,7 @@ module _ {site : Site} {choice : Choice} where
       more-hops (λ i k. site .carries i k ≡ true) i k (onward .trace) ks q f (carried r)
 
   -- a packet that was not delivered met no destination
-  never-home : {n i j : ℕ} {trip : Trip} → Follows site choice n i j trip → trip .outcome ≢ delivered → All (λ z. z ≢ site .destination) (trip .trace)
+  never-home : {n i j : ℕ} {path : Path} → Follows site choice n i j path → path .outcome ≢ delivered → All (λ z. z ≢ site .destination) (path .trace)
   never-home (delivers e) h = absurd (h refl)
   never-home (discards {n} {i} {j} e) h = (away (site .rules (choice i n)) i j (site .destination) e refl, tt)
   never-home (has-none {n} {i} {j} e) h = (away (site .rules (choice i n)) i j (site .destination) e refl, tt)
@@ -102,7 +82,7 @@ module _ {site : Site} {choice : Choice} where
   never-home (crosses {n} {i} {j} e f r) h = (away (site .rules (choice i n)) i j (site .destination) e refl, never-home r h)
 
   -- the bound is not met where the hops are within it
-  pub bounded : {n i j : ℕ} {trip : Trip} → Follows site choice n i j trip → (left : ℕ) → trip .hops ≤ left → follow site choice left n i j ≡ trip
+  pub bounded : {n i j : ℕ} {path : Path} → Follows site choice n i j path → (left : ℕ) → path .hops ≤ left → follow site choice left n i j ≡ path
   unfolding follow
   bounded (delivers e) zero h = rw e
   bounded (delivers e) (suc left) h = rw e
@@ -116,9 +96,9 @@ module _ {site : Site} {choice : Choice} where
   bounded (crosses {i = i} e f r) (suc left) h = rw (e, f) (ap (crossed i) (bounded r left (omega arith)))
 
   -- the rules give one answer
-  pub one-trip : {n i j : ℕ} {trip trip′ : Trip} → Follows site choice n i j trip → Follows site choice n i j trip′ → trip ≡ trip′
-  one-trip {trip = trip} {trip′ = trip′} f g =
-      sym (bounded f (trip .hops + trip′ .hops) (omega arith)) ∙ bounded g (trip .hops + trip′ .hops) (omega arith)
+  pub one-path : {n i j : ℕ} {path path′ : Path} → Follows site choice n i j path → Follows site choice n i j path′ → path ≡ path′
+  one-path {path = path} {path′ = path′} f g =
+      sym (bounded f (path .hops + path′ .hops) (omega arith)) ∙ bounded g (path .hops + path′ .hops) (omega arith)
 
 -- ---- the two views
 
@@ -160,7 +140,7 @@ module _ {old new : Table} {d : ℕ} {site : Site} (𝓣 : Together old new) (�
           }
 
   module _ (choice : Choice) where
-    trail : {n i j : ℕ} {trip : Trip} → Follows site choice n i j trip → Trail (W old new) (C old new d) j i (trip .trace)
+    trail : {n i j : ℕ} {path : Path} → Follows site choice n i j path → Trail (W old new) (C old new d) j i (path .trace)
     trail (delivers e) = stays
     trail (discards e) = stays
     trail (has-none e) = stays
@@ -205,13 +185,13 @@ module _ {old new : Table} {d : ℕ} {site : Site} (𝓣 : Together old new) (�
     pub follows : (j i : ℕ) → i < new .routers → Follows site choice 0 i j (follow site choice (new .routers - 1) 0 i j)
     follows j i b = go (runs (new .routers - 1) 0 i j)
       where
-        go : {trip : Trip} → Follows site choice 0 i j trip
-            ⊎ TooLong (new .routers - 1) i j → Follows site choice 0 i j trip
+        go : {path : Path} → Follows site choice 0 i j path
+            ⊎ TooLong (new .routers - 1) i j → Follows site choice 0 i j path
         go (inl f) = f
         go (inr (is, t, l)) = absurd (omega (arith, trail-short (nets 𝓣) (both 𝓣) (laws 𝓣 d) (one-change 𝓣) t b))
 
-    pub loopless : (s : ℕ) {trip : Trip} → s < new .routers → d < new .routers → Follows site choice 0 s starts-here trip → Loopless (new .routers) s site choice trip
-    loopless s {trip} b h f = record {
+    pub loopless : (s : ℕ) {path : Path} → s < new .routers → d < new .routers → Follows site choice 0 s starts-here path → Loopless (new .routers) s site choice path
+    loopless s {path} b h f = record {
       by-rules = f;
       once = once;
       counted = counted f;
@@ -220,34 +200,34 @@ module _ {old new : Table} {d : ℕ} {site : Site} (𝓣 : Together old new) (�
       all-routers = inside;
       few = few;
       over-links = carried f;
-      enough = enough (trip .outcome) refl;
+      enough = enough (path .outcome) refl;
     }
       where
-        t : Trail (W old new) (C old new d) starts-here s (trip .trace)
+        t : Trail (W old new) (C old new d) starts-here s (path .trace)
         t = trail f
 
-        once : Distinct (trip .trace)
+        once : Distinct (path .trace)
         once = no-router-twice (nets 𝓣) (both 𝓣) (laws 𝓣 d) (one-change 𝓣) t
 
-        inside : All (λ i. i < new .routers) (trip .trace)
+        inside : All (λ i. i < new .routers) (path .trace)
         inside = trail-inside (nets 𝓣) (both 𝓣) (laws 𝓣 d) (one-change 𝓣) t b
 
-        few : trip .hops < new .routers
+        few : path .hops < new .routers
         few = omega (arith, counted f, trail-short (nets 𝓣) (both 𝓣) (laws 𝓣 d) (one-change 𝓣) t b)
 
         -- the destination is one more router, where the packet was not delivered
-        undelivered : trip .outcome ≢ delivered → suc (trip .hops) ≤ new .routers - 1
+        undelivered : path .outcome ≢ delivered → suc (path .hops) ≤ new .routers - 1
         undelivered u =
-            let away : All (λ z. z ≢ d) (trip .trace) = rw (𝓟 .for-d) at (never-home f u) in
-            omega (arith, counted f, pigeonhole (new .routers) (d ∷ trip .trace) (away, once) (h, inside))
+            let away : All (λ z. z ≢ d) (path .trace) = rw (𝓟 .for-d) at (never-home f u) in
+            omega (arith, counted f, pigeonhole (new .routers) (d ∷ path .trace) (away, once) (h, inside))
 
-        enough : (o : Outcome) → trip .outcome ≡ o → deciders o (trip .hops) ≤ new .routers - 1
+        enough : (o : Outcome) → path .outcome ≡ o → deciders o (path .hops) ≤ new .routers - 1
         enough delivered e = omega (arith, few)
         enough discarded e = undelivered (λ q. omega (arith, ap outcome-code (sym e ∙ q)))
         enough unrouted e = undelivered (λ q. omega (arith, ap outcome-code (sym e ∙ q)))
         enough lost e = undelivered (λ q. omega (arith, ap outcome-code (sym e ∙ q)))
 
 -- the packet ended at one of the routers
-pub ends-inside : {routers s : ℕ} {site : Site} {choice : Choice} {trip : Trip} → Loopless routers s site choice trip → trip .router < routers
-ends-inside {routers} {trip = trip} l =
-    subst (λ i. i < routers) (l .to-its-end) (All-there (λ i. i < routers) (trip .trace) (l .all-routers) (trip .hops) 255 (omega (arith, l .counted)))
+pub ends-inside : {routers s : ℕ} {site : Site} {choice : Choice} {path : Path} → Loopless routers s site choice path → path .router < routers
+ends-inside {routers} {path = path} l =
+    subst (λ i. i < routers) (l .to-its-end) (All-there (λ i. i < routers) (path .trace) (l .all-routers) (path .hops) 255 (omega (arith, l .counted)))

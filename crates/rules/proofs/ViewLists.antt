@@ -9,7 +9,7 @@ use lib.Dec.{eqb}
 use lib.ListN.{length, getD}
 use Rattle.rules.specs.Words.{pick, All, below}
 use Rattle.rules.specs.Entries.{Entry, entry-by}
-use Rattle.rules.specs.Paths.{View, old-view, new-view, Choice, listed, Trip, Site, entry-at}
+use Rattle.rules.specs.Paths.{View, old-view, new-view, Choice, listed, Path, Site, entry-at}
 use Rattle.rules.specs.Demand3.{Follows, delivers, discards, has-none, loses, crosses, decisions}
 use Rattle.rules.proofs.Basics.{length-values, value-at, All-values}
 use Rattle.rules.proofs.Entries.{home-delivers, delivers-home}
@@ -18,8 +18,8 @@ use Rattle.rules.proofs.LoopFree.{deciders-suc}
 -- ---- choices that agree at every decision give one answer
 
 module _ (site : Site) (choice choice′ : Choice) where
-  abbrev Agree : ℕ → Trip → Type 0
-  Agree n trip = (m : ℕ) → m < decisions trip → choice′ (getD (trip .trace) m 255) (n + m) ≡ choice (getD (trip .trace) m 255) (n + m)
+  abbrev Agree : ℕ → Path → Type 0
+  Agree n path = (m : ℕ) → m < decisions path → choice′ (getD (path .trace) m 255) (n + m) ≡ choice (getD (path .trace) m 255) (n + m)
 
   -- the router that the packet stands at decides alike
   alike : (n i j : ℕ) {e : Entry} → entry-at site choice n i j ≡ e → choice′ i (n + 0) ≡ choice i (n + 0) → entry-at site choice′ n i j ≡ e
@@ -27,7 +27,7 @@ module _ (site : Site) (choice choice′ : Choice) where
       let e′ : choice′ i n ≡ choice i n = rw (add-zero n) at e in
       ap (λ v. entry-by (site .rules v) i j (site .destination)) e′ ∙ q
 
-  pub same-views : {n i j : ℕ} {trip : Trip} → Follows site choice n i j trip → Agree n trip → Follows site choice′ n i j trip
+  pub same-views : {n i j : ℕ} {path : Path} → Follows site choice n i j path → Agree n path → Follows site choice′ n i j path
   same-views (delivers {n} {i} {j} e) a =
       delivers (home-delivers (site .rules (choice′ i n)) i j (site .destination) (delivers-home (site .rules (choice i n)) i j (site .destination) e))
   same-views (discards {n} {i} {j} e) a = discards (alike n i j e (a 0 (omega arith)))
@@ -73,7 +73,7 @@ views-say choice m trace i n h =
     go new-view = refl
 
 -- a list of m bytes gives the path of a choice whose decisions are m at most
-pub listed-follows : (site : Site) (choice : Choice) (j i m : ℕ) {trip : Trip} → Follows site choice 0 i j trip → decisions trip ≤ m
-    → Follows site (listed (views-of choice m (trip .trace))) 0 i j trip
-listed-follows site choice j i m {trip} f h =
-    same-views site choice (listed (views-of choice m (trip .trace))) f (λ k l. rw (zero-add k) (views-say choice m (trip .trace) (getD (trip .trace) k 255) k (omega arith)))
+pub listed-follows : (site : Site) (choice : Choice) (j i m : ℕ) {path : Path} → Follows site choice 0 i j path → decisions path ≤ m
+    → Follows site (listed (views-of choice m (path .trace))) 0 i j path
+listed-follows site choice j i m {path} f h =
+    same-views site choice (listed (views-of choice m (path .trace))) f (λ k l. rw (zero-add k) (views-say choice m (path .trace) (getD (path .trace) k 255) k (omega arith)))

@@ -81,7 +81,7 @@ abbrev pub EntriesForward : Type 0
 EntriesForward =
     (t : Table) → Obeys t → (i j d k : ℕ) → entry t i j d ≡ forward k → (has (next-hops t i d) k ≡ true) × (k < t .routers)
 
--- ---- interface tables (proofs/Outputs)
+-- ---- interface tables (proofs/Interfaces)
 
 -- row 255 first, then previous hops 0 to N − 1, a column for each destination; the whole row of the router itself is 131
 pub record InterfaceCells (t : Table) (i : ℕ) : Type 0 where

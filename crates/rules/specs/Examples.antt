@@ -4,7 +4,9 @@ use mathlib.Core.List.{List, [], _∷_, _++_, map}
 use Prim.Native.Nat.{ℕ}
 use lib.ListN.{replicate}
 use Rattle.rules.specs.Words.{_=?_, pick, text}
-use Rattle.rules.specs.Questions.{read-answer, path-answer, trace-after, interfaces-after}
+use Rattle.rules.specs.ReadQuestion.{read-answer}
+use Rattle.rules.specs.InterfacesQuestion.{interfaces-after}
+use Rattle.rules.specs.PathQuestion.{PathInputs, path-answer, trace-after}
 use Rattle.rules.specs.Listing.{listing}
 
 -- ---- tables
@@ -44,7 +46,7 @@ square = routers 4 ++ link 0 1 1 ++ link 0 2 1 ++ link 1 3 1 ++ link 2 3 1 ++ ta
 
 pub data Question : Type 0 where
   reads : List ℕ → Question
-  follows : List ℕ → List ℕ → ℕ → ℕ → List ℕ → Question
+  follows : PathInputs → Question
 
 -- accepted with N and the number of links; refused with number and place; ended with the outcome's code, router, hops, and the bytes of the trace
 pub data Reply : Type 0 where
@@ -60,10 +62,14 @@ unfoldable pub reply : Question → Reply
 reply (reads table) =
     let a = read-answer table in
     pick (a .refusal .number =? 0) (accepts (a .values .routers) (a .values .links)) (refuses (a .refusal .number) (a .refusal .place))
-reply (follows old new s d views) =
-    let a = path-answer old new s d views lent in
-    pick (a .refusal .number =? 0) (ends (a .values .outcome) (a .values .router) (a .values .hops) (trace-after old new s d views lent))
+reply (follows q) =
+    let a = path-answer q in
+    pick (a .refusal .number =? 0) (ends (a .values .outcome) (a .values .router) (a .values .hops) (trace-after q))
     (refuses (a .refusal .number) (a .refusal .place))
+
+-- from s to d, by these views
+abbrev follow : List ℕ → List ℕ → ℕ → ℕ → List ℕ → Question
+follow old new s d views = follows (record { old = old; new = new; source = s; destination = d; views = views; trace = lent })
 
 infix 68 _gets_
 abbrev _gets_ : Question → Reply → Question × Reply
@@ -87,19 +93,19 @@ cases =
     ∷ reads (0x01 ∷ 0x00 ∷ 0x01 ∷ 0x41 ∷ 0x7F ∷ 0x00 ∷ 0x00 ∷ []) gets refuses 4 0
     ∷ reads (0x01 ∷ 0x00 ∷ 0x01 ∷ 0x02 ∷ 0x04 ∷ 0x00 ∷ 0x04 ∷ 0x00 ∷ 0x01 ∷ 0x00 ∷ 0x00 ∷ 0x7F ∷ 0x00 ∷ 0x00 ∷ []) gets refuses 4 4
     -- P6 to P8
-    ∷ follows triangle-old triangle-new 1 2 (n ∷ o ∷ []) gets ends 129 0 1 (1 ∷ 0 ∷ replicate 6 0xEE)
-    ∷ follows triangle-old triangle-new 1 2 (n ∷ n ∷ []) gets ends 128 2 2 (1 ∷ 0 ∷ 2 ∷ replicate 5 0xEE)
-    ∷ follows triangle-old triangle-new 0 2 (o ∷ o ∷ []) gets ends 132 1 1 (0 ∷ 1 ∷ replicate 6 0xEE)
+    ∷ follow triangle-old triangle-new 1 2 (n ∷ o ∷ []) gets ends 129 0 1 (1 ∷ 0 ∷ replicate 6 0xEE)
+    ∷ follow triangle-old triangle-new 1 2 (n ∷ n ∷ []) gets ends 128 2 2 (1 ∷ 0 ∷ 2 ∷ replicate 5 0xEE)
+    ∷ follow triangle-old triangle-new 0 2 (o ∷ o ∷ []) gets ends 132 1 1 (0 ∷ 1 ∷ replicate 6 0xEE)
     -- P9, P10
-    ∷ follows ring-old ring-new 0 6 (o ∷ o ∷ o ∷ n ∷ n ∷ n ∷ []) gets ends 129 3 3 (0 ∷ 1 ∷ 4 ∷ 3 ∷ replicate 4 0xEE)
-    ∷ follows ring-old ring-new 3 6 (n ∷ n ∷ n ∷ n ∷ n ∷ n ∷ []) gets ends 128 6 4 (3 ∷ 2 ∷ 5 ∷ 0 ∷ 6 ∷ replicate 3 0xEE)
+    ∷ follow ring-old ring-new 0 6 (o ∷ o ∷ o ∷ n ∷ n ∷ n ∷ []) gets ends 129 3 3 (0 ∷ 1 ∷ 4 ∷ 3 ∷ replicate 4 0xEE)
+    ∷ follow ring-old ring-new 3 6 (n ∷ n ∷ n ∷ n ∷ n ∷ n ∷ []) gets ends 128 6 4 (3 ∷ 2 ∷ 5 ∷ 0 ∷ 6 ∷ replicate 3 0xEE)
     -- P11
-    ∷ follows triangle-old triangle-new 2 2 (o ∷ o ∷ []) gets ends 128 2 0 (2 ∷ replicate 7 0xEE)
-    ∷ follows triangle-old triangle-new 2 2 (o ∷ n ∷ []) gets ends 128 2 0 (2 ∷ replicate 7 0xEE)
-    ∷ follows triangle-old triangle-new 2 2 (n ∷ o ∷ []) gets ends 128 2 0 (2 ∷ replicate 7 0xEE)
-    ∷ follows triangle-old triangle-new 2 2 (n ∷ n ∷ []) gets ends 128 2 0 (2 ∷ replicate 7 0xEE)
+    ∷ follow triangle-old triangle-new 2 2 (o ∷ o ∷ []) gets ends 128 2 0 (2 ∷ replicate 7 0xEE)
+    ∷ follow triangle-old triangle-new 2 2 (o ∷ n ∷ []) gets ends 128 2 0 (2 ∷ replicate 7 0xEE)
+    ∷ follow triangle-old triangle-new 2 2 (n ∷ o ∷ []) gets ends 128 2 0 (2 ∷ replicate 7 0xEE)
+    ∷ follow triangle-old triangle-new 2 2 (n ∷ n ∷ []) gets ends 128 2 0 (2 ∷ replicate 7 0xEE)
     -- P12
-    ∷ follows pair-linked pair-apart 0 1 (n ∷ []) gets ends 130 0 0 (0 ∷ replicate 7 0xEE)
+    ∷ follow pair-linked pair-apart 0 1 (n ∷ []) gets ends 130 0 0 (0 ∷ replicate 7 0xEE)
     ∷ []
 
 abbrev pub BenchExamples : Type 0
@@ -109,7 +115,7 @@ BenchExamples = map (λ c. reply (c .0)) cases ≡ map (λ c. c .1) cases
 
 abbrev pub InterfaceExample : Type 0
 InterfaceExample =
-    interfaces-after triangle-old 0 (replicate 13 0xEE)
+    interfaces-after (record { table = triangle-old; router = 0; out = replicate 13 0xEE })
     ≡ 128 ∷ 1 ∷ 1 ∷ 131 ∷ 131 ∷ 131 ∷ 128 ∷ 129 ∷ 129 ∷ 128 ∷ 1 ∷ 1 ∷ 0xEE ∷ []
 
 -- ---- listings: of the square, of two routers without a link, and of a refused table

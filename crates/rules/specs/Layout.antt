@@ -62,6 +62,10 @@ pub record Obeys (t : Table) : Type 0 where
   -- the places are those of the bytes below, where the names begin at place 4
   pub names-placed : Placed 4 (t .names)
 
+-- the longest table: 4 bytes for the routers, 64 names of 20 bytes each, 256 links of 7 bytes each, and 3 bytes for the end
+abbrev pub longest-table : ℕ
+longest-table = 3079
+
 -- ---- the bytes: one byte tag, two bytes length, high byte first, then the contents
 
 -- every number is one byte

@@ -40,18 +40,18 @@ outcome-code unrouted = 130
 outcome-code lost = 132
 
 -- how and at which router the packet ended, the links really crossed, and the visited routers in order
-pub record Trip : Type 0 where
+pub record Path : Type 0 where
   pub outcome : Outcome
   pub router : ℕ
   pub hops : ℕ
   pub trace : List ℕ
 
 -- the packet ends at router i
-abbrev pub ended : Outcome → ℕ → Trip
+abbrev pub ended : Outcome → ℕ → Path
 ended o i = record { outcome = o; router = i; hops = 0; trace = i ∷ [] }
 
 -- the packet crosses a link from router i; `onward` is what happens then
-abbrev pub crossed : ℕ → Trip → Trip
+abbrev pub crossed : ℕ → Path → Path
 crossed i onward = record { outcome = onward .outcome; router = onward .router; hops = suc (onward .hops); trace = i ∷ onward .trace }
 
 -- ---- arriving and leaving
@@ -64,11 +64,11 @@ pub record Site : Type 0 where
   pub carries : ℕ → ℕ → Bool
 
 -- leaving router i over its link to k: a link that does not carry loses the packet; `onward` is what happens from k on
-abbrev pub leave : Site → ℕ → ℕ → Trip → Trip
+abbrev pub leave : Site → ℕ → ℕ → Path → Path
 leave site i k onward = pick (site .carries i k) (crossed i onward) (ended lost i)
 
 -- arriving at router i: its entry is applied; `out` is leaving for a hop
-abbrev pub arrive : ℕ → (ℕ → Trip) → Entry → Trip
+abbrev pub arrive : ℕ → (ℕ → Path) → Entry → Path
 arrive i out deliver = ended delivered i
 arrive i out discard = ended discarded i
 arrive i out no-route = ended unrouted i
@@ -80,21 +80,31 @@ entry-at site choice n i j = entry-by (site .rules (choice i n)) i j (site .dest
 
 -- Arriving and leaving take turns until the packet ends. `left` bounds the hops: with none left a packet that is forwarded counts as lost, and for
 -- two tables that go together demand 3 shows that this never happens.
-unfoldable pub follow : Site → Choice → ℕ → ℕ → ℕ → ℕ → Trip
+unfoldable pub follow : Site → Choice → ℕ → ℕ → ℕ → ℕ → Path
 follow site choice zero n i j = arrive i (λ k. ended lost i) (entry-at site choice n i j)
 follow site choice (suc left) n i j =
     arrive i (λ k. leave site i k (follow site choice left (suc n) k i)) (entry-at site choice n i j)
 
--- the whole way of a packet that starts at s, in a site of N routers: N − 1 hops are enough
-unfoldable pub journey : ℕ → Site → Choice → ℕ → Trip
-journey routers site choice s = follow site choice (routers - 1) 0 s starts-here
+-- the path of a packet that starts at s, in a site of N routers: N − 1 hops are enough
+unfoldable pub path-in : ℕ → Site → Choice → ℕ → Path
+path-in routers site choice s = follow site choice (routers - 1) 0 s starts-here
 
 -- ---- the path of document 01
 
--- each view is a table, and the real links are those of the new table
-unfoldable pub site-of : Table → Table → ℕ → Site
-site-of old new d = record { destination = d; rules = λ v. rules-of (by v old new) d; carries = λ i k. 0 <? weight new i k }
+-- what is followed: a packet, in a site of two views
+pub record Packet : Type 0 where
+  pub old : Table
+  pub new : Table
+  pub source : ℕ
+  pub destination : ℕ
 
--- the packet from s to d
-abbrev pub path : Table → Table → Choice → ℕ → ℕ → Trip
-path old new choice s d = journey (new .routers) (site-of old new d) choice s
+-- each view is a table, and the real links are those of the new table
+unfoldable pub site-of : Packet → Site
+site-of packet = record {
+  destination = packet .destination;
+  rules = λ v. rules-of (by v (packet .old) (packet .new)) (packet .destination);
+  carries = λ i k. 0 <? weight (packet .new) i k;
+}
+
+abbrev pub path : Packet → Choice → Path
+path packet choice = path-in (packet .new .routers) (site-of packet) choice (packet .source)

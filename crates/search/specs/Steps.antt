@@ -32,7 +32,7 @@ pub record IsNearest (costs : List ℕ) (waiting m : ℕ) : Type 0 where
 abbrev pub cheaper : ℕ → ℕ → ℕ → Bool
 cheaper weight from now = 0 <? weight && weight + from <? now
 
--- the way over m is cheaper for router k
+-- the route over m is cheaper for router k
 abbrev pub falls : (ℕ → ℕ → ℕ) → List ℕ → ℕ → ℕ → Bool
 falls w costs m k = cheaper (w m k) (cost-at costs m) (cost-at costs k)
 

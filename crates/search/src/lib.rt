@@ -4,8 +4,8 @@ ghost use mathlib.Core.Logic.{_≢_};
 ghost use Prim.Native.Nat.{_+_, _^_, _<_, min};
 ghost use lib.ListN.{getD, set, replicate};
 ghost use Rattle.rules.specs.Words.{pick};
-ghost use Rattle.webs.specs.Webs.{weight-over, web-weight, IsWeb};
-ghost use Rattle.search.specs.Search.{costs-from, found-from};
+ghost use Rattle.webs.specs.Webs.{weight-over, IsWeb};
+ghost use Rattle.search.specs.Search.{FindsCosts, FindsAll};
 ghost use Rattle.search.specs.Steps.{AreCosts, AreSets, IsNearest, cheaper, renewed, eased, fallen, carried};
 use sets::no_sets;
 use webs::Web;
@@ -97,7 +97,7 @@ fn ease<'a>(near: &'a [u64; 64], weights: &'a [u16; 4096], m: usize, costs: &mut
 // The costs from a router to each of 64 routers. The nearest waiting router passes its cost on over its links, and where a cost falls that router
 // waits again; at the end none does.
 pub fn costs_from(web: Web, router: u8) -> [u32; 64]
-    ensures { λ r. ⌜ r ≡ costs-from (web-weight web) router ⌝ }
+    ensures { λ r. ⌜ FindsCosts web router r ⌝ }
 {
     let mut costs = no_costs();
     if 64 <= router {
@@ -194,7 +194,7 @@ fn reach<'a>(
 // The costs from a router to each of 64 routers, and its next-hop sets for them, by one search: the nearest waiting router passes its first hops on
 // with its cost.
 pub fn all_from(web: Web, router: u8) -> Found
-    ensures { λ r. ⌜ r ≡ found-from (web-weight web) router ⌝ }
+    ensures { λ r. ⌜ FindsAll web router r ⌝ }
 {
     let mut costs = no_costs();
     let mut sets = no_sets();

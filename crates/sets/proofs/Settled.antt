@@ -1,22 +1,18 @@
 -- Every promise of this crate allows one answer.
 -- Assumes nothing.
-use mathlib.Core.Path.{_≡_}
-use mathlib.Core.Bool.{Bool}
-use mathlib.Core.List.{List}
 use Prim.Native.Nat.{ℕ}
-use lib.ListN.{replicate}
 use Rattle.rules.specs.Promises.{Settles}
-use Rattle.rules.specs.NextHops.{has, chosen, size}
 use Rattle.rules.proofs.Uniqueness.{value-settled}
+use Rattle.sets.specs.Sets.{NoSets, HasMember, Chooses, Counts}
 
-pub no-sets-settled : Settles (λ (r : List ℕ). r ≡ replicate 64 0)
-no-sets-settled = value-settled (replicate {A = ℕ} 64 0)
+pub no-sets-settled : Settles NoSets
+no-sets-settled = value-settled _
 
-pub has-settled : (set k : ℕ) → Settles (λ (r : Bool). r ≡ has set k)
-has-settled set k = value-settled (has set k)
+pub has-settled : (set k : ℕ) → Settles (HasMember set k)
+has-settled set k = value-settled _
 
-pub chosen-settled : (set : ℕ) → Settles (λ (r : ℕ). r ≡ chosen set)
-chosen-settled set = value-settled (chosen set)
+pub chosen-settled : (set : ℕ) → Settles (Chooses set)
+chosen-settled set = value-settled _
 
-pub size-settled : (set : ℕ) → Settles (λ (r : ℕ). r ≡ size set)
-size-settled set = value-settled (size set)
+pub size-settled : (set : ℕ) → Settles (Counts set)
+size-settled set = value-settled _

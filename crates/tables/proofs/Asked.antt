@@ -2,7 +2,7 @@
 -- Assumes nothing.
 use mathlib.Core.Path.{_≡_, refl, sym, _∙_, ap, ap₂, subst}
 use mathlib.Core.Logic.{_≢_}
-use mathlib.Core.List.{List, []}
+use mathlib.Core.List.{List, [], _∷_}
 use Prim.Native.Nat.{ℕ, _+_, _-_, _*_, _≤_, _<_}
 use native.Mathlib.Omega.{arith}
 use lib.ListN.{length}
@@ -10,12 +10,14 @@ use borrow.Author.Tests.{lt-ltb, le-ltb}
 use Rattle.rules.specs.Layout.{Table}
 use Rattle.rules.specs.Table.{Record, Judged, accepted, refused, judge, nothing-behind, read, number-of, place-of, records-of, table-of, says}
 use Rattle.rules.specs.Demand1.{IsAccepted}
-use Rattle.rules.specs.Questions.{refusal, of-table, answered, Reading, read-answer}
+use Rattle.rules.specs.Answers.{answered, refused-with}
+use Rattle.rules.specs.ReadQuestion.{Reading, no-reading, reading, read-answer}
 use Rattle.rules.proofs.Acceptance.{obeys}
 use Rattle.rules.proofs.Basics.{pick-t, pick-f}
 use Rattle.rules.proofs.Judging.{judge-judges}
-use Rattle.rules.proofs.Lines.{no-lines-left, table-bad, table-good}
-use Rattle.rules.proofs.Refusals.{By-1-to-7, judged-by, table-refusals, tables-first}
+use Rattle.rules.proofs.Answers.{table-bad, number-answers}
+use Rattle.rules.proofs.Refusals.{By-1-to-7, judged-by, table-refusals}
+use Rattle.rules.proofs.ReadQuestion.{read-proved}
 use Rattle.tables.specs.Readings.{judged-numbers, judging-answer, Numbered, JudgedTo, links-place, links-start, reading-numbers, outline-of, Reads}
 use Rattle.tables.specs.declared.Judged.{Judged as JudgedHere}
 use Rattle.tables.specs.declared.Judged.the-variants as here
@@ -29,12 +31,8 @@ use Rattle.tables.proofs.Settled.{judge-settled}
 -- ---- the reading question, from what judging tells
 
 module _ (bytes : List ℕ) where
-  -- the zeros of a refusal, and the values of an answer
-  abbrev none : Reading
-  none = record { routers = 0; links = 0 }
-
   abbrev values : Reading
-  values = record { routers = says bytes .routers; links = length (says bytes .links) }
+  values = reading (says bytes)
 
   -- what judging answers is the case for what is judged
   judged-so : JudgedTo bytes (judged-of (judge bytes))
@@ -54,7 +52,7 @@ module _ (bytes : List ℕ) where
   -- what is read decides
   refused-reads : (number place : ℕ) → read bytes ≡ refused number place → Reads bytes (Refused number place)
   unfolding reading-numbers read-answer
-  refused-reads number place e = (sym (table-bad none values 0 bytes [] number place (ap number-of e) (ap place-of e) n), n)
+  refused-reads number place e = (sym (table-bad no-reading values 0 bytes [] number place (ap number-of e) (ap place-of e) n), n)
     where
       n : number ≢ 0
       n z = omega (arith, z, table-refusals bytes number place e)
@@ -64,8 +62,8 @@ module _ (bytes : List ℕ) where
   unfolding reading-numbers read-answer says links-start
   accepted-reads rs end e =
       let t = ap (λ j. table-of (records-of j)) e in (
-        sym (table-good none values 0 bytes [] (ap number-of e) ∙ no-lines-left none values
-            ∙ ap (λ (t : Table). answered (record { routers = t .routers; links = length (t .links) })) t),
+        sym (number-answers no-reading values (bytes ∷ []) [] (ap number-of e, tt) 0 refl refl
+            ∙ ap (λ (t : Table). answered (reading t)) t),
         sym (ap₂ (λ (t : Table) (start : ℕ). record { routers = t .routers; links = length (t .links); start = start }) t (ap (λ j. links-place (records-of j)) e)),
       )
 
@@ -120,24 +118,10 @@ module _ (bytes : List ℕ) where
 
   -- ---- what a reading tells of the bytes
 
-  -- the question's refusal is the table's
-  own-refusal : read-answer bytes .refusal ≡ of-table 0 bytes
-  unfolding read-answer
-  own-refusal = go (read bytes) refl
-    where
-      go : (j : Judged) → read bytes ≡ j → read-answer bytes .refusal ≡ of-table 0 bytes
-      go (accepted rs end) e =
-          ap (λ a. a .refusal) (table-good none values 0 bytes [] (ap number-of e) ∙ no-lines-left none values)
-          ∙ sym (ap (λ j. record { number = number-of j; table = 0; place = place-of j }) e)
-      go (refused number place) e = tables-first .of-read bytes (λ z. omega (arith, sym (ap number-of e) ∙ z, table-refusals bytes number place e))
-
-  told-refusal : (r : ReadingHere) → Reads bytes r → reading-numbers r .refusal ≡ of-table 0 bytes
-  told-refusal r p = ap (λ a. a .refusal) (p .0) ∙ own-refusal
-
   -- the answer by cases
   pub reading-accepted : (r : ReadingHere) (t : Outline) → Reads bytes r → r ≡ Accepted t → IsAccepted bytes × (t ≡ outline-of bytes)
   unfolding reading-numbers
-  reading-accepted r t p e = (sym (ap (λ f. f .number) (told-refusal (Accepted t) q)), q .1)
+  reading-accepted r t p e = (read-proved bytes .exactly .asked .0 (sym (ap (λ a. a .refusal .number) (q .0))) .0, q .1)
     where
       q : Reads bytes (Accepted t)
       q = subst (Reads bytes) e p
@@ -145,11 +129,14 @@ module _ (bytes : List ℕ) where
   pub reading-refused : (r : ReadingHere) (number place : ℕ) → Reads bytes r → r ≡ Refused number place
       → (number-of (read bytes) ≡ number) × (place-of (read bytes) ≡ place) × (number ≢ 0)
   unfolding reading-numbers
-  reading-refused r number place p e =
-      (sym (ap (λ f. f .number) (told-refusal (Refused number place) q)), sym (ap (λ f. f .place) (told-refusal (Refused number place) q)), q .1)
+  reading-refused r number place p e = (sym (ap (λ a. a .refusal .number) own), sym (ap (λ a. a .refusal .place) own), q .1)
     where
       q : Reads bytes (Refused number place)
       q = subst (Reads bytes) e p
+
+      -- the question's refusal is the table's
+      own : reading-numbers (Refused number place) ≡ refused-with no-reading (number-of (read bytes)) 0 (place-of (read bytes))
+      own = q .0 ∙ read-proved bytes .exactly .in-order .0 (λ a. q .1 (ap (λ a. a .refusal .number) (q .0) ∙ read-proved bytes .exactly .asked .1 (a, tt)))
 
   -- the outline's routers are the table's, from 1 to 64
   pub own-routers : (t : Outline) → t ≡ outline-of bytes → t .routers ≡ says bytes .routers

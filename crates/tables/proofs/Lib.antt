@@ -3,4 +3,5 @@ pub mod Stepping
 pub mod Turns
 pub mod Places
 pub mod Asked
+pub mod OnTable
 pub mod Settled

@@ -1,71 +1,67 @@
--- Each promise of this crate allows one answer.
+-- Each promise of this crate allows one answer: each case is had again from its numbers.
 -- Assumes nothing.
-use mathlib.Core.Path.{_≡_, sym, _∙_, ap}
+use mathlib.Core.Path.{_≡_, refl, sym, ap}
 use mathlib.Core.List.{List}
-use Prim.Native.Nat.{ℕ, _+_, _*_}
-use native.Mathlib.Omega.{arith}
+use Prim.Native.Nat.{ℕ}
+use Rattle.rules.specs.Words.{_=?_, pick}
 use Rattle.rules.specs.Table.{Step, good, bad}
+use Rattle.rules.specs.Answers.{Answer}
+use Rattle.rules.specs.ReadQuestion.{Reading}
 use Rattle.rules.specs.Promises.{Settles}
-use Rattle.rules.proofs.Uniqueness.{value-settled, equations-settle}
-use Rattle.tables.specs.Steps.{step-of, StepsTo}
-use Rattle.tables.specs.Readings.{judged-numbers, Numbered, JudgedTo, reading-numbers, Outlined, Reads}
+use Rattle.rules.proofs.Uniqueness.{value-settled, equations-settle, numbers-settle, refused-again}
+use Rattle.tables.specs.Steps.{Joins, step-of, StepsTo}
+use Rattle.tables.specs.Readings.{Judging, judged-numbers, Numbered, JudgedTo, reading-numbers, outline-of, Outlined, Reads}
 use Rattle.tables.specs.declared.Kept.{Kept}
 use Rattle.tables.specs.declared.Step.{Step as StepHere}
 use Rattle.tables.specs.declared.Step.the-variants as here
 use Rattle.tables.specs.declared.Judged.{Judged as JudgedHere}
 use Rattle.tables.specs.declared.Judged.the-variants as judged
-use Rattle.tables.specs.declared.Reading.{Reading}
+use Rattle.tables.specs.declared.Reading.{Reading as ReadingHere}
 use Rattle.tables.specs.declared.Reading.the-variants.{Accepted, Refused}
 
-pub joined-settled : (high low : ℕ) → Settles (λ (r : ℕ). r ≡ high * 256 + low)
-joined-settled high low = value-settled (high * 256 + low)
+pub joined-settled : (high low : ℕ) → Settles (Joins high low)
+joined-settled high low = value-settled _
 
--- the step's answers are told apart
-pub step-apart : (bytes : List ℕ) (place : ℕ) (x y : StepHere) → step-of bytes place x ≡ step-of bytes place y → x ≡ y
-unfolding step-of
-step-apart bytes place (here.Record tag end) (here.Record tag′ end′) e =
-    let t : tag ≡ tag′ = ap tag-in e in
-    let z : end ≡ end′ = ap end-in e in
-    rw (t, z)
-  where
-    tag-in : Step → ℕ
-    tag-in (good r end) = r .tag
-    tag-in (bad number at) = 0
+-- ---- the reading step
 
-    end-in : Step → ℕ
-    end-in (good r end) = end
-    end-in (bad number at) = 0
-step-apart bytes place (here.Record tag end) (here.Refused number at) e = let z : _≡_ {A = ℕ} 0 1 = cc in absurd (omega arith)
-step-apart bytes place (here.Refused number at) (here.Record tag end) e = let z : _≡_ {A = ℕ} 0 1 = cc in absurd (omega arith)
-step-apart bytes place (here.Refused number at) (here.Refused number′ at′) e =
-    let n : number ≡ number′ = cc in
-    let p : at ≡ at′ = cc in
-    rw (n, p)
+step-from : Step → StepHere
+step-from (good r end) = here.Record (r .tag) end
+step-from (bad number at) = here.Refused number at
+
+step-again : (bytes : List ℕ) (place : ℕ) (x : StepHere) → step-from (step-of bytes place x) ≡ x
+unfolding step-from step-of
+step-again bytes place (here.Record tag end) = refl
+step-again bytes place (here.Refused number at) = refl
 
 pub next-record-settled : (bytes : List ℕ) (place : ℕ) (kept : Kept) → Settles (StepsTo bytes place kept)
-next-record-settled bytes place kept = equations-settle _ _ (step-of bytes place) (step-apart bytes place) _
+next-record-settled bytes place kept = equations-settle _ _ (step-of bytes place) step-from (step-again bytes place) _
 
--- the numbers tell accepted and refused apart, since a refusal has a number
-pub judged-apart : (x y : JudgedHere) → Numbered x → Numbered y → judged-numbers x ≡ judged-numbers y → x ≡ y
-unfolding judged-numbers
-judged-apart (judged.Accepted n k end) (judged.Accepted n′ k′ end′) p q e = λ i. judged.Accepted (e i .values .routers) (e i .values .links) (e i .values .end)
-judged-apart (judged.Accepted n k end) (judged.Refused number place) p q e = absurd (q (sym (ap (λ a. a .refusal .number) e)))
-judged-apart (judged.Refused number place) (judged.Accepted n k end) p q e = absurd (p (ap (λ a. a .refusal .number) e))
-judged-apart (judged.Refused number place) (judged.Refused number′ place′) p q e = λ i. judged.Refused (e i .refusal .number) (e i .refusal .place)
+-- ---- judging; a refusal has a number
+
+judged-from : Answer Judging → JudgedHere
+judged-from a =
+    pick (a .refusal .number =? 0)
+    (judged.Accepted (a .values .routers) (a .values .links) (a .values .end))
+    (judged.Refused (a .refusal .number) (a .refusal .place))
+
+judged-again : (x : JudgedHere) → Numbered x → judged-from (judged-numbers x) ≡ x
+unfolding judged-from judged-numbers
+judged-again (judged.Accepted routers links end) own = refl
+judged-again (judged.Refused number place) own = refused-again _ _ _ own
 
 pub judge-settled : (bytes : List ℕ) → Settles (JudgedTo bytes)
-judge-settled bytes x y p q = judged-apart x y (p .1) (q .1) (p .0 ∙ sym (q .0))
+judge-settled bytes = numbers-settle _ _ judged-numbers Numbered judged-from judged-again _
 
--- so do those of a reading, and the outline settles an accepted table
-pub reading-apart : (bytes : List ℕ) (x y : Reading) → Outlined bytes x → Outlined bytes y → reading-numbers x ≡ reading-numbers y → x ≡ y
-unfolding reading-numbers
-reading-apart bytes (Accepted t) (Accepted u) p q e = ap (λ t. Accepted t) (p ∙ sym q)
-reading-apart bytes (Accepted t) (Refused number place) p q e = absurd (q (sym (ap (λ a. a .refusal .number) e)))
-reading-apart bytes (Refused number place) (Accepted t) p q e = absurd (p (ap (λ a. a .refusal .number) e))
-reading-apart bytes (Refused number place) (Refused number′ place′) p q e =
-    let n : number ≡ number′ = ap (λ a. a .refusal .number) e in
-    let z : place ≡ place′ = ap (λ a. a .refusal .place) e in
-    rw (n, z)
+-- ---- reading; an accepted table has its own outline
 
-pub read-settled : (bytes : List ℕ) → Settles (Reads bytes)
-read-settled bytes x y p q = reading-apart bytes x y (p .1) (q .1) (p .0 ∙ sym (q .0))
+module _ (bytes : List ℕ) where
+  reading-from : Answer Reading → ReadingHere
+  reading-from a = pick (a .refusal .number =? 0) (Accepted (outline-of bytes)) (Refused (a .refusal .number) (a .refusal .place))
+
+  reading-again : (x : ReadingHere) → Outlined bytes x → reading-from (reading-numbers x) ≡ x
+  unfolding reading-from reading-numbers
+  reading-again (Accepted t) own = ap Accepted (sym own)
+  reading-again (Refused number place) own = refused-again _ _ _ own
+
+  pub read-settled : Settles (Reads bytes)
+  read-settled = numbers-settle _ _ reading-numbers (Outlined bytes) reading-from reading-again _

@@ -6,7 +6,8 @@ use lib.ListN.{length}
 use Rattle.rules.specs.Words.{_<?_, pick}
 use Rattle.rules.specs.Layout.{tag-link}
 use Rattle.rules.specs.Table.{Record, Judged, accepted, refused, judge, read, records-of, table-of, says}
-use Rattle.rules.specs.Questions.{Answer, answered, refused-with, IsNumber, Reading, read-answer}
+use Rattle.rules.specs.Answers.{Answer, answered, refused-with, IsNumber}
+use Rattle.rules.specs.ReadQuestion.{Reading, no-reading, read-answer}
 use Rattle.tables.specs.declared.Step.{Step as StepHere}
 use Rattle.tables.specs.declared.Step.the-variants as step
 use Rattle.tables.specs.declared.Judged.{Judged as JudgedHere}
@@ -64,7 +65,7 @@ links-start bytes = links-place (records-of (read bytes))
 -- the numbers of each case
 unfoldable pub reading-numbers : ReadingHere → Answer Reading
 reading-numbers (Accepted t) = answered (record { routers = t .routers; links = t .links })
-reading-numbers (Refused number place) = refused-with (record { routers = 0; links = 0 }) number 0 place
+reading-numbers (Refused number place) = refused-with no-reading number 0 place
 
 -- the outline of a table: N, how many links, and where they start
 abbrev pub outline-of : List ℕ → Outline

@@ -2,13 +2,17 @@
 use mathlib.Core.Path.{_≡_}
 use mathlib.Core.List.{List, [], _∷_}
 use mathlib.Core.Bool.{not}
-use Prim.Native.Nat.{ℕ, _+_, _-_}
+use Prim.Native.Nat.{ℕ, _+_, _-_, _*_}
 use lib.ListN.{take, drop}
 use Rattle.rules.specs.Words.{_when_, first_otherwise_}
 use Rattle.rules.specs.Table.{Record, Kept, Step, good, bad, step, contents-fit, not-above, too-many}
 use Rattle.tables.specs.declared.Kept.{Kept as KeptHere}
 use Rattle.tables.specs.declared.Step.{Step as StepHere}
 use Rattle.tables.specs.declared.Step.the-variants.{Record as RecordHere, Refused}
+
+-- two bytes as one number, high byte first
+abbrev pub Joins : ℕ → ℕ → ℕ → Type 0
+Joins high low r = r ≡ high * 256 + low
 
 -- what is kept, in the rules' words
 abbrev pub kept-of : KeptHere → Kept

@@ -1,12 +1,12 @@
 // Reading tables: the reading step, judging up to the end record, the reading question.
 ghost use mathlib.Core.Path.{_≡_};
 ghost use mathlib.Core.Bool.{true, _&&_};
-ghost use Prim.Native.Nat.{_+_, _*_, _<_, _≤_};
+ghost use Prim.Native.Nat.{_+_, _<_, _≤_};
 ghost use lib.ListN.{length, drop};
 ghost use Rattle.rules.specs.Words.{_=?_, _≤?_, every};
 ghost use Rattle.rules.specs.Layout.{tag-name, tag-link};
 ghost use Rattle.rules.specs.Table.{byte, bad-tag, length-allowed, routers-fit, name-byte, name-fits, link-fits, link-of, key, keep};
-ghost use Rattle.tables.specs.Steps.{kept-of, contents-number, record-with, StepsTo};
+ghost use Rattle.tables.specs.Steps.{Joins, kept-of, contents-number, record-with, StepsTo};
 ghost use Rattle.tables.specs.Readings.{refusal-in, JudgedTo, Reads};
 
 // The tags of the four kinds of records.
@@ -53,7 +53,7 @@ pub enum Reading {
 
 // Two bytes as one number, high byte first.
 pub fn joined(high: u8, low: u8) -> u16
-    ensures { λ r. ⌜ r ≡ high * 256 + low ⌝ }
+    ensures { λ r. ⌜ Joins high low r ⌝ }
 {
     (high as u16) * 256 + (low as u16)
 }

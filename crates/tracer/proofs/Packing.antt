@@ -2,12 +2,13 @@
 -- Assumes nothing.
 use mathlib.Core.Path.{_≡_, refl, sym, _∙_, ap, subst}
 use mathlib.Core.List.{List}
-use Prim.Native.Nat.{ℕ, _+_, _*_, _^_, _<_}
+use Prim.Native.Nat.{ℕ, _+_, _*_, _^_, _≤_, _<_}
 use native.Mathlib.Nat.{zero-add, add-zero}
 use native.Mathlib.Omega.{arith}
 use Rattle.rules.specs.Names.{Part}
-use Rattle.rules.specs.Questions.{Answer, answered, refused-with}
-use Rattle.rules.specs.Demand1.{PlaceNear, PartFits}
+use Rattle.rules.specs.Layout.{longest-table}
+use Rattle.rules.specs.Answers.{Answer, answered, refused-with}
+use Rattle.rules.specs.NameQuestions.{PartFits}
 use Rattle.names.specs.declared.Naming.{Naming}
 use Rattle.names.specs.declared.Naming.the-variants.{Named, Unnamed, Refused}
 use Rattle.names.specs.Namings.{naming-numbers, NamesPart}
@@ -35,7 +36,7 @@ module _ {R A : Type 0} (numbers : R → Answer A) {a : Answer A} {r s : R} (p :
       → refusal-bytes number table place ≡ packed bytes a
   refused bytes n z = sym (packed-refused bytes _ _ _ _ z) ∙ ap (packed bytes) (same n)
 
-  pub near : {zeros : A} {number table place : ℕ} → numbers s ≡ refused-with zeros number table place → PlaceNear a → place < 256 ^ 6
+  pub near : {zeros : A} {number table place : ℕ} → numbers s ≡ refused-with zeros number table place → a .refusal .place ≤ longest-table → place < 256 ^ 6
   near n h = omega (arith, ap (λ (a : Answer A). a .refusal .place) (same n))
 
 -- the bytes of an ending whose outcome has this code
@@ -58,7 +59,7 @@ module _ (part : Part) (a : Answer ℕ) where
   name-packed (Refused number table place) p q = sym (packed-refused (name-bytes part) 0 number table place refl) ∙ ap (packed (name-bytes part)) p
 
   -- and its numbers fit
-  pub name-fits : (n : Naming) → naming-numbers n ≡ a → NamesPart part n → PlaceNear a
+  pub name-fits : (n : Naming) → naming-numbers n ≡ a → NamesPart part n → a .refusal .place ≤ longest-table
       → (bytes : List ℕ) → (a .values ≡ 1 → PartFits bytes part) → NamingFits n
   unfolding naming-numbers
   name-fits (Named table place size) p q h bytes f =

@@ -15,23 +15,29 @@ use Rattle.rules.specs.Layout.{Table, Name, Obeys}
 use Rattle.rules.specs.Table.{says}
 use Rattle.rules.specs.NextHops.{has, members, chosen, size}
 use Rattle.rules.specs.Entries.{Entry, deliver, discard, no-route, forward, entry, code}
-use Rattle.rules.specs.Paths.{Trip, Outcome, delivered, discarded, unrouted, lost, outcome-code}
-use Rattle.rules.specs.Names.{Part}
-use Rattle.rules.specs.Questions.{Answer, answered, refused-with, Reading, Pairing, ChosenHop, chosen-answer, Ending, ending, trip-of, name-for, name-answer, name-part, two-names-answer, two-names-part}
-use Rattle.rules.specs.Demand1.{IsAccepted, Answered, RefusedBy, PlaceNear, PartFits}
+use Rattle.rules.specs.Paths.{Path, Outcome, listed, delivered, discarded, unrouted, lost, outcome-code}
+use Rattle.rules.specs.Names.{Part, named, or-else}
+use Rattle.rules.specs.Answers.{Answer, answered, refused-with, Answered, RefusedBy, table-numbers}
+use Rattle.rules.specs.ReadQuestion.{Reading}
+use Rattle.rules.specs.PairQuestion.{Pairing}
+use Rattle.rules.specs.ChosenQuestion.{ChosenHop, chosen-answer}
+use Rattle.rules.specs.EntryQuestion.{entry-asked}
+use Rattle.rules.specs.PathQuestion.{Ending, ending, path-of}
+use Rattle.rules.specs.NameQuestions.{name-for, PartFits, name-answer, name-part, two-names-answer, two-names-part}
+use Rattle.rules.specs.Demand1.{IsAccepted}
 use Rattle.rules.proofs.Basics.{pick-t, pick-f, every-true, All-listed, All-at, All-map, all-those, those-at-most, length-below}
 use Rattle.rules.proofs.Acceptance.{obeys}
-use Rattle.rules.proofs.Lengths.{places-near}
-use Rattle.rules.proofs.Refusals.{question-refusals}
-use Rattle.rules.proofs.Cases.{answered-exactly}
 use Rattle.rules.proofs.Entries.{entries-forward}
-use Rattle.rules.proofs.Outputs.{length-interfaces}
-use Rattle.rules.proofs.Values.{values-given}
-use Rattle.rules.proofs.Names.{parts-are-names, parts-of-two-are-names, named-answered, parts-fit}
 use Rattle.rules.proofs.LoopFree.{ends-inside}
-use Rattle.rules.proofs.Answered.{demand3-for-questions}
+use Rattle.rules.proofs.ReadQuestion.{read-proved}
+use Rattle.rules.proofs.PairQuestion.{pair-proved}
+use Rattle.rules.proofs.FillQuestion.{fill-proved}
+use Rattle.rules.proofs.EntryQuestion.{entry-proved}
+use Rattle.rules.proofs.InterfacesQuestion.{interfaces-proved}
+use Rattle.rules.proofs.PathQuestion.{path-proved}
+use Rattle.rules.proofs.NameQuestions.{named-answered, name-proved, two-names-proved}
 use Rattle.tracer.specs.Packed.{refusal-bytes, packed, alone, reading-bytes, pairing-bytes, chosen-bytes, ending-bytes, named-bytes, name-bytes}
-use Rattle.tracer.specs.Taken.{byte-in, two-bytes-in, taken, reading-in, pairing-in, byte-alone, two-bytes-alone, chosen-in, ending-in, named-in, part-in, TakenApart}
+use Rattle.tracer.specs.Taken.{byte-in, two-bytes-in, taken, reading-in, pairing-in, byte-alone, two-bytes-alone, chosen-in, ending-in, named-in, part-in, TakenAgain, TakenApart}
 use Rattle.tracer.proofs.Packing.{packed-answered, packed-refused}
 
 -- ---- refusals
@@ -60,15 +66,15 @@ no-number word h = omega arith
 -- an answer by its question's refusals
 module _ {A : Type 0} {zeros : A} {last-table : ℕ} {numbers : List ℕ} {a : Answer A} (r : RefusedBy last-table numbers zeros a) where
   answered-so : Answered a → a ≡ answered (a .values)
-  answered-so e = λ i. record { refusal = record { number = e i; table = r .of-none e .0 i; place = r .of-none e .1 i }; values = a .values }
+  answered-so e = λ i. record { refusal = record { number = e i; table = r .listed .of-none e .0 i; place = r .listed .of-none e .1 i }; values = a .values }
 
   refused-so : a .refusal .number ≢ 0 → a ≡ refused-with zeros (a .refusal .number) (a .refusal .table) (a .refusal .place)
   refused-so n = λ i. record { refusal = a .refusal; values = r .else-zero n i }
 
-  again : (bytes : A → ℕ) (values-in : ℕ → A) → last-table < 256 → every (λ n. n <? 256) (0 ∷ numbers) ≡ true → PlaceNear a → bytes zeros ≡ 0
-      → (Answered a → Again bytes values-in (a .values)) → taken zeros values-in (packed bytes a) ≡ a
+  again : (bytes : A → ℕ) (values-in : ℕ → A) → last-table < 256 → every (λ n. n <? 256) (0 ∷ table-numbers numbers) ≡ true → bytes zeros ≡ 0
+      → (Answered a → Again bytes values-in (a .values)) → TakenAgain zeros bytes values-in a
   unfolding taken
-  again bytes values-in l few near z f = go (ℕ-discrete (a .refusal .number) 0)
+  again bytes values-in l few z f = go (ℕ-discrete (a .refusal .number) 0)
     where
       go : Dec (a .refusal .number ≡ 0) → taken zeros values-in (packed bytes a) ≡ a
       go (yes e) =
@@ -81,9 +87,9 @@ module _ {A : Type 0} {zeros : A} {last-table : ℕ} {numbers : List ℕ} {a : A
           let number = a .refusal .number in
           let table = a .refusal .table in
           let place = a .refusal .place in
-          let small : number < 256 = All-listed (λ n. n < 256) _ (every-true (λ n. n <? 256) (λ n. n < 256) (λ n. ltb-true n 256) _ few) number (r .by-listed) in
-          let old : table < 256 = omega (arith, r .of-a-table) in
-          let at : place < 256 ^ 6 = omega arith in
+          let small : number < 256 = All-listed (λ n. n < 256) _ (every-true (λ n. n <? 256) (λ n. n < 256) (λ n. ltb-true n 256) _ few) number (r .listed .by-number) in
+          let old : table < 256 = omega (arith, r .listed .of-a-table) in
+          let at : place < 256 ^ 6 = omega (arith, r .listed .near) in
           let w : packed bytes a ≡ refusal-bytes number table place = ap (packed bytes) (refused-so n) ∙ packed-refused bytes zeros number table place z in
           let q = number-again number table place small old at in
           ap (taken zeros values-in) w
@@ -159,8 +165,8 @@ code-fits t o i j d = go (entry t i j d) refl
     go (forward k) q = omega (arith, entries-forward t o i j d k q .1, o .few-routers)
 
 -- where a packet of n routers' tables ended
-trip-again : (n : ℕ) (t : Trip) → n ≤ 64 → t .hops < n → t .router < n → Again ending-bytes ending-in (ending t)
-trip-again n t s h i = ending-again (ending t) (code-of (t .outcome)) (omega arith) (omega arith)
+path-again : (n : ℕ) (p : Path) → n ≤ 64 → p .hops < n → p .router < n → Again ending-bytes ending-in (ending p)
+path-again n p s h i = ending-again (ending p) (code-of (p .outcome)) (omega arith) (omega arith)
   where
     code-of : (o : Outcome) → outcome-code o < 256
     code-of delivered = omega arith
@@ -205,23 +211,10 @@ named-again : {bytes : List ℕ} (part : Part) (v : ℕ) → (v ≡ 1 → PartFi
 named-again part v f (inl e) = subst (Again (name-bytes part) named-in) (sym e) (none-again part)
 named-again part v f (inr e) = subst (Again (name-bytes part) named-in) (sym e) (some-again part (f e))
 
-module _ (table : List ℕ) (i : ℕ) (e : Answered (name-answer table i)) where
-  one-or-none : (name-answer table i .values ≡ 0) ⊎ (name-answer table i .values ≡ 1)
-  one-or-none = go (name-for table i) refl
-    where
-      go : (o : Option Name) → name-for table i ≡ o → (name-answer table i .values ≡ 0) ⊎ (name-answer table i .values ≡ 1)
-      go none q = inl (parts-are-names table i .unnamed e q .0)
-      go (some m) q = inr (parts-are-names table i .named m e q .0)
-
-module _ (old new : List ℕ) (i : ℕ) (e : Answered (two-names-answer old new i)) where
-  one-of-two-or-none : (two-names-answer old new i .values ≡ 0) ⊎ (two-names-answer old new i .values ≡ 1)
-  one-of-two-or-none = go (name-for new i) (name-for old i) refl refl
-    where
-      go : (o p : Option Name) → name-for new i ≡ o → name-for old i ≡ p
-          → (two-names-answer old new i .values ≡ 0) ⊎ (two-names-answer old new i .values ≡ 1)
-      go (some m) p q r = inr (parts-of-two-are-names old new i .named-new m e q .0)
-      go none (some m) q r = inr (parts-of-two-are-names old new i .named-old m e q r .0)
-      go none none q r = inl (parts-of-two-are-names old new i .unnamed e q r .0)
+-- whether there is a name is 1 or 0
+zero-or-one : (o : Option Name) (v : ℕ) → v ≡ named o → (v ≡ 0) ⊎ (v ≡ 1)
+zero-or-one none v e = inl e
+zero-or-one (some m) v e = inr e
 
 -- the number of an answer that names a part
 named-word : {last-table : ℕ} {numbers : List ℕ} (part : Part) (a : Answer ℕ) → RefusedBy last-table numbers 0 a → a .values ≡ 1
@@ -236,58 +229,62 @@ few : (bytes : List ℕ) → IsAccepted bytes → says bytes .routers ≤ 64
 few bytes a = obeys bytes a .few-routers
 
 pub taken-apart : TakenApart
-unfolding every reading-bytes pairing-bytes ending-bytes name-bytes chosen-answer trip-of
+unfolding every reading-bytes pairing-bytes ending-bytes name-bytes chosen-answer path-of entry-asked
 taken-apart = record {
   of-read = λ table.
-      again (question-refusals .of-read table) _ _ (omega arith) refl (places-near .of-read table) refl
+      let 𝓟 = read-proved table in
+      again (𝓟 .refusals) _ _ (omega arith) refl refl
       (λ e.
-      let o = obeys table (answered-exactly .of-read table .0 e) in
-      subst (Again reading-bytes reading-in) (sym (values-given .of-read table e))
-      (reading-again _ (omega (arith, o .few-routers)) (omega (arith, o .few-links))));
-  of-pair = λ old new.
-      again (question-refusals .of-pair old new) _ _ (omega arith) refl (places-near .of-pair old new) refl
+      let o = obeys table (𝓟 .exactly .asked .0 e .0) in
+      subst (Again reading-bytes reading-in) (sym (𝓟 .exactly .given e)) (reading-again _ (omega (arith, o .few-routers)) (omega (arith, o .few-links))));
+  of-pair = λ q.
+      let 𝓟 = pair-proved q in
+      again (𝓟 .refusals) _ _ (omega arith) refl refl
       (λ e.
-      let t = answered-exactly .of-pair old new .0 e in
-      subst (Again pairing-bytes pairing-in) (sym (values-given .of-pair old new e))
-      (pairing-again _ (omega (arith, few new (t .new-accepted))) (omega (arith, t .one-link))));
-  of-fill = λ table d costs sets.
-      again (question-refusals .of-fill table d costs sets) _ _ (omega arith) refl (places-near .of-fill table d costs sets) refl
+      let t = 𝓟 .asked .0 e in
+      subst (Again pairing-bytes pairing-in) (sym (𝓟 .exactly .given e))
+      (pairing-again _ (omega (arith, few (q .new) (t .new-accepted))) (omega (arith, t .one-link))));
+  of-fill = λ q.
+      let 𝓟 = fill-proved q in
+      again (𝓟 .refusals) _ _ (omega arith) refl refl
+      (λ e. byte-again _ (omega (arith, 𝓟 .exactly .given e, few (q .table) (𝓟 .exactly .asked .0 e .0))));
+  of-chosen = λ q. chosen-again _ (chosen-fits (q .set) .0) (chosen-fits (q .set) .1);
+  of-entry = λ q.
+      let 𝓟 = entry-proved q in
+      again (𝓟 .refusals) _ _ (omega arith) refl refl
       (λ e.
-      byte-again _
-      (omega (arith, values-given .of-fill table d costs sets e, few table (answered-exactly .of-fill table d costs sets .0 e .0))));
-  of-chosen = λ set. chosen-again _ (chosen-fits set .0) (chosen-fits set .1);
-  of-entry = λ table i j d.
-      again (question-refusals .of-entry table i j d) _ _ (omega arith) refl (places-near .of-entry table i j d) refl
+      subst (Again alone byte-alone) (sym (𝓟 .exactly .given e))
+      (byte-again _ (code-fits (says (q .table)) (obeys (q .table) (𝓟 .exactly .asked .0 e .0)) (q .router) (q .previous) (q .destination))));
+  of-interfaces = λ q.
+      let 𝓟 = interfaces-proved q in
+      again (𝓟 .refusals) _ _ (omega arith) refl refl
       (λ e.
-      subst (Again alone byte-alone) (sym (values-given .of-entry table i j d e))
-      (byte-again _ (code-fits (says table) (obeys table (answered-exactly .of-entry table i j d .0 e .0)) i j d)));
-  of-interfaces = λ table i out.
-      again (question-refusals .of-interfaces table i out) _ _ (omega arith) refl (places-near .of-interfaces table i out) refl
+      let n = says (q .table) .routers in
+      let f = few (q .table) (𝓟 .exactly .asked .0 e .0) in
+      two-bytes-again _
+      (omega (arith, 𝓟 .exactly .given e, mul-le-mul {n₁ = n + 1} {m₁ = n} {n₂ = 65} {m₂ = 64} (omega arith) f)));
+  of-path = λ q.
+      let 𝓟 = path-proved q in
+      again (𝓟 .refusals) _ _ (omega arith) refl refl
       (λ e.
-      let n = few table (answered-exactly .of-interfaces table i out .0 e .0) in
-      two-bytes-again _ (omega (
-        arith,
-        values-given .of-interfaces table i out e,
-        length-interfaces (says table) i,
-        mul-le-mul {n₁ = says table .routers + 1} {m₁ = says table .routers} {n₂ = 65} {m₂ = 64} (omega arith) n,
-      )));
-  of-path = λ old new s d views trace.
-      again (question-refusals .of-path old new s d views trace) _ _ (omega arith) refl (places-near .of-path old new s d views trace) refl
+      let h = 𝓟 .asked .0 e in
+      let l = 𝓟 .demand3 (h .together) (h .numbers) (listed (q .views)) .general .loopless in
+      subst (Again ending-bytes ending-in) (sym (𝓟 .exactly .given e))
+      (path-again (says (q .new) .routers) (path-of q) (few (q .new) (h .together .new-accepted)) (l .few) (ends-inside l)));
+  of-name = λ q.
+      let 𝓟 = name-proved q in
+      again (𝓟 .refusals) _ _ (omega arith) refl refl
+      (λ e. named-again (name-part q) _ (𝓟 .fits) (zero-or-one (name-for (q .table) (q .router)) _ (𝓟 .exactly .given e)));
+  of-name-part = λ q v.
+      let 𝓟 = name-proved q in
+      ap part-in (named-word (name-part q) (name-answer q) (𝓟 .refusals) v) ∙ part-again (name-part q) (𝓟 .fits v);
+  of-two-names = λ q.
+      let 𝓟 = two-names-proved q in
+      again (𝓟 .refusals) _ _ (omega arith) refl refl
       (λ e.
-      let l = demand3-for-questions old new s d views trace e .demand3 .general .loopless in
-      subst (Again ending-bytes ending-in) (sym (values-given .of-path old new s d views trace e))
-      (trip-again (says new .routers) (trip-of old new s d views)
-      (few new (answered-exactly .of-path old new s d views trace .0 e .together .new-accepted)) (l .few) (ends-inside l)));
-  of-name = λ table i.
-      again (question-refusals .of-name table i) _ _ (omega arith) refl (places-near .of-name table i) refl
-      (λ e. named-again (name-part table i) _ (parts-fit .of-name table i) (one-or-none table i e));
-  of-name-part = λ table i v.
-      ap part-in (named-word (name-part table i) (name-answer table i) (question-refusals .of-name table i) v)
-      ∙ part-again (name-part table i) (parts-fit .of-name table i v);
-  of-two-names = λ old new i.
-      again (question-refusals .of-two-names old new i) _ _ (omega arith) refl (places-near .of-two-names old new i) refl
-      (λ e. named-again (two-names-part old new i) _ (parts-fit .of-two-names old new i) (one-of-two-or-none old new i e));
-  of-two-names-part = λ old new i v.
-      ap part-in (named-word (two-names-part old new i) (two-names-answer old new i) (question-refusals .of-two-names old new i) v)
-      ∙ part-again (two-names-part old new i) (parts-fit .of-two-names old new i v);
+      named-again (two-names-part q) _ (𝓟 .fits)
+      (zero-or-one (or-else (name-for (q .new) (q .router)) (name-for (q .old) (q .router))) _ (𝓟 .exactly .given e)));
+  of-two-names-part = λ q v.
+      let 𝓟 = two-names-proved q in
+      ap part-in (named-word (two-names-part q) (two-names-answer q) (𝓟 .refusals) v) ∙ part-again (two-names-part q) (𝓟 .fits v);
 }

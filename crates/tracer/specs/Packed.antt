@@ -1,8 +1,18 @@
 -- Answers as one 64-bit number of eight bytes, byte 7 the highest.
+use mathlib.Core.Path.{_≡_}
+use mathlib.Core.List.{List}
 use Prim.Native.Nat.{ℕ, _+_, _*_, _^_, _<_}
 use Rattle.rules.specs.Words.{_=?_, pick}
 use Rattle.rules.specs.Names.{Part}
-use Rattle.rules.specs.Questions.{Answer, Reading, Pairing, ChosenHop, Ending}
+use Rattle.rules.specs.Answers.{Answer}
+use Rattle.rules.specs.ReadQuestion.{Reading, read-answer}
+use Rattle.rules.specs.PairQuestion.{PairInputs, Pairing, pair-answer}
+use Rattle.rules.specs.FillQuestion.{FillInputs, fill-answer, costs-after, sets-after}
+use Rattle.rules.specs.ChosenQuestion.{ChosenInputs, ChosenHop, chosen-answer}
+use Rattle.rules.specs.EntryQuestion.{EntryInputs, entry-answer}
+use Rattle.rules.specs.InterfacesQuestion.{InterfacesInputs, interfaces-answer, interfaces-after}
+use Rattle.rules.specs.PathQuestion.{PathInputs, Ending, path-answer, trace-after}
+use Rattle.rules.specs.NameQuestions.{NameInputs, name-answer, name-part, TwoNamesInputs, two-names-answer, two-names-part}
 use Rattle.names.specs.declared.Naming.{Naming}
 use Rattle.names.specs.declared.Naming.the-variants.{Named, Unnamed, Refused}
 
@@ -43,6 +53,35 @@ named-bytes table place size = place * 256 ^ 4 + 256 ^ 3 + table * 256 ^ 2 + siz
 -- 1 for a name, which is this part; unnamed is 0
 unfoldable pub name-bytes : Part → ℕ → ℕ
 name-bytes part named = pick (named =? 0) 0 (named-bytes (part .table) (part .place) (part .size))
+
+-- ---- what each function promises: the answer of its question, packed, and what its outputs hold afterwards
+
+abbrev pub PacksRead : List ℕ → ℕ → Type 0
+PacksRead table r = r ≡ packed reading-bytes (read-answer table)
+
+abbrev pub PacksPair : PairInputs → ℕ → Type 0
+PacksPair q r = r ≡ packed pairing-bytes (pair-answer q)
+
+abbrev pub PacksFill : FillInputs → ℕ → List ℕ → List ℕ → Type 0
+PacksFill q r costs sets = (r ≡ packed alone (fill-answer q)) × (costs ≡ costs-after q) × (sets ≡ sets-after q)
+
+abbrev pub PacksChosen : ChosenInputs → ℕ → Type 0
+PacksChosen q r = r ≡ chosen-bytes (chosen-answer q)
+
+abbrev pub PacksEntry : EntryInputs → ℕ → Type 0
+PacksEntry q r = r ≡ packed alone (entry-answer q)
+
+abbrev pub PacksInterfaces : InterfacesInputs → ℕ → List ℕ → Type 0
+PacksInterfaces q r out = (r ≡ packed alone (interfaces-answer q)) × (out ≡ interfaces-after q)
+
+abbrev pub PacksPath : PathInputs → ℕ → List ℕ → Type 0
+PacksPath q r trace = (r ≡ packed ending-bytes (path-answer q)) × (trace ≡ trace-after q)
+
+abbrev pub PacksName : NameInputs → ℕ → Type 0
+PacksName q r = r ≡ packed (name-bytes (name-part q)) (name-answer q)
+
+abbrev pub PacksTwoNames : TwoNamesInputs → ℕ → Type 0
+PacksTwoNames q r = r ≡ packed (name-bytes (two-names-part q)) (two-names-answer q)
 
 -- ---- the name questions' answer by its cases
 

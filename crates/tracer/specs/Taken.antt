@@ -4,7 +4,15 @@ use mathlib.Core.List.{List}
 use Prim.Native.Nat.{ℕ, _+_, _*_, _/_, _%_, _^_}
 use Rattle.rules.specs.Words.{_=?_, pick}
 use Rattle.rules.specs.Names.{Part}
-use Rattle.rules.specs.Questions.{Answer, answered, refused-with, Reading, read-answer, Pairing, pair-answer, fill-answer, ChosenHop, chosen-answer, entry-answer, interfaces-answer, Ending, path-answer, name-answer, name-part, two-names-answer, two-names-part}
+use Rattle.rules.specs.Answers.{Answer, answered, refused-with}
+use Rattle.rules.specs.ReadQuestion.{Reading, no-reading, read-answer}
+use Rattle.rules.specs.PairQuestion.{PairInputs, Pairing, no-pairing, pair-answer}
+use Rattle.rules.specs.FillQuestion.{FillInputs, fill-answer}
+use Rattle.rules.specs.ChosenQuestion.{ChosenInputs, ChosenHop, chosen-answer}
+use Rattle.rules.specs.EntryQuestion.{EntryInputs, entry-answer}
+use Rattle.rules.specs.InterfacesQuestion.{InterfacesInputs, interfaces-answer}
+use Rattle.rules.specs.PathQuestion.{PathInputs, Ending, no-ending, path-answer}
+use Rattle.rules.specs.NameQuestions.{NameInputs, name-answer, name-part, TwoNamesInputs, two-names-answer, two-names-part}
 use Rattle.tracer.specs.Packed.{packed, alone, reading-bytes, pairing-bytes, chosen-bytes, ending-bytes, name-bytes}
 
 -- byte n of a number
@@ -51,27 +59,23 @@ part-in word = record { table = byte-in word 2; place = two-bytes-in word 4; siz
 
 -- ---- what is packed is read again (proofs/Taken)
 
--- The answer is read from its number: byte 7 is 0 exactly where the question is answered, and nothing of the answer is lost.
+-- an answer is read from its number: byte 7 is 0 exactly where the question is answered, and nothing of the answer is lost
+abbrev pub TakenAgain : {A : Type 0} → A → (A → ℕ) → (ℕ → A) → Answer A → Type 0
+TakenAgain zeros bytes values-in a = taken zeros values-in (packed bytes a) ≡ a
+
+-- and so is the part that a name is
+abbrev pub PartTakenAgain : Part → Answer ℕ → Type 0
+PartTakenAgain part a = a .values ≡ 1 → part-in (packed (name-bytes part) a) ≡ part
+
 pub record TakenApart : Type 0 where
-  pub of-read : (table : List ℕ)
-      → taken (record { routers = 0; links = 0 }) reading-in (packed reading-bytes (read-answer table)) ≡ read-answer table
-  pub of-pair : (old new : List ℕ)
-      → taken (record { routers = 0; differ = 0 }) pairing-in (packed pairing-bytes (pair-answer old new)) ≡ pair-answer old new
-  pub of-fill : (table : List ℕ) (d : ℕ) (costs sets : List ℕ)
-      → taken 0 byte-alone (packed alone (fill-answer table d costs sets)) ≡ fill-answer table d costs sets
-  pub of-chosen : (set : ℕ) → chosen-in (chosen-bytes (chosen-answer set)) ≡ chosen-answer set
-  pub of-entry : (table : List ℕ) (i j d : ℕ) → taken 0 byte-alone (packed alone (entry-answer table i j d)) ≡ entry-answer table i j d
-  pub of-interfaces : (table : List ℕ) (i : ℕ) (out : List ℕ)
-      → taken 0 two-bytes-alone (packed alone (interfaces-answer table i out)) ≡ interfaces-answer table i out
-  pub of-path : (old new : List ℕ) (s d : ℕ) (views trace : List ℕ)
-      → taken (record { outcome = 0; router = 0; hops = 0 }) ending-in (packed ending-bytes (path-answer old new s d views trace))
-      ≡ path-answer old new s d views trace
-  pub of-name : (table : List ℕ) (i : ℕ)
-      → taken 0 named-in (packed (name-bytes (name-part table i)) (name-answer table i)) ≡ name-answer table i
-  pub of-name-part : (table : List ℕ) (i : ℕ)
-      → name-answer table i .values ≡ 1 → part-in (packed (name-bytes (name-part table i)) (name-answer table i)) ≡ name-part table i
-  pub of-two-names : (old new : List ℕ) (i : ℕ)
-      → taken 0 named-in (packed (name-bytes (two-names-part old new i)) (two-names-answer old new i)) ≡ two-names-answer old new i
-  pub of-two-names-part : (old new : List ℕ) (i : ℕ)
-      → two-names-answer old new i .values ≡ 1
-      → part-in (packed (name-bytes (two-names-part old new i)) (two-names-answer old new i)) ≡ two-names-part old new i
+  pub of-read : (table : List ℕ) → TakenAgain no-reading reading-bytes reading-in (read-answer table)
+  pub of-pair : (q : PairInputs) → TakenAgain no-pairing pairing-bytes pairing-in (pair-answer q)
+  pub of-fill : (q : FillInputs) → TakenAgain 0 alone byte-alone (fill-answer q)
+  pub of-chosen : (q : ChosenInputs) → chosen-in (chosen-bytes (chosen-answer q)) ≡ chosen-answer q
+  pub of-entry : (q : EntryInputs) → TakenAgain 0 alone byte-alone (entry-answer q)
+  pub of-interfaces : (q : InterfacesInputs) → TakenAgain 0 alone two-bytes-alone (interfaces-answer q)
+  pub of-path : (q : PathInputs) → TakenAgain no-ending ending-bytes ending-in (path-answer q)
+  pub of-name : (q : NameInputs) → TakenAgain 0 (name-bytes (name-part q)) named-in (name-answer q)
+  pub of-name-part : (q : NameInputs) → PartTakenAgain (name-part q) (name-answer q)
+  pub of-two-names : (q : TwoNamesInputs) → TakenAgain 0 (name-bytes (two-names-part q)) named-in (two-names-answer q)
+  pub of-two-names-part : (q : TwoNamesInputs) → PartTakenAgain (two-names-part q) (two-names-answer q)

@@ -1,8 +1,7 @@
 // The C side: each question for C control programs, with its answer as one 64-bit number.
 ghost use mathlib.Core.Path.{_≡_};
 ghost use Prim.Native.Nat.{_^_, _<_};
-ghost use Rattle.rules.specs.Questions.{read-answer, pair-answer, entry-answer, interfaces-answer, interfaces-after, fill-answer, costs-after, sets-after, chosen-answer, path-answer, trace-after, name-answer, name-part, two-names-answer, two-names-part};
-ghost use Rattle.tracer.specs.Packed.{refusal-bytes, packed, alone, reading-bytes, pairing-bytes, chosen-bytes, ending-bytes, name-bytes, naming-bytes, NamingFits};
+ghost use Rattle.tracer.specs.Packed.{refusal-bytes, naming-bytes, NamingFits, PacksRead, PacksPair, PacksFill, PacksChosen, PacksEntry, PacksInterfaces, PacksPath, PacksName, PacksTwoNames};
 use entries::EntryAnswer;
 use entries::code;
 use entries::entry_of;
@@ -13,7 +12,7 @@ use names::naming_in;
 use names::naming_in_two;
 use pairs::Pairing;
 use pairs::pair;
-use paths::Tracing;
+use paths::PathAnswer;
 use paths::outcome_code;
 use paths::path;
 use routes::Filling;
@@ -47,7 +46,7 @@ fn refused(number: u8, table: u8, place: usize) -> u64
 // One table: N in byte 0, the number of links in bytes 2 and 1.
 #[no_mangle]
 pub extern "C" fn tracer_read(table: &[u8]) -> u64
-    ensures { λ r. ⌜ r ≡ packed reading-bytes (read-answer (now (table .entry))) ⌝ }
+    ensures { λ r. ⌜ PacksRead (now (table .entry)) r ⌝ }
 {
     let reading = read(table);
     match reading {
@@ -59,7 +58,7 @@ pub extern "C" fn tracer_read(table: &[u8]) -> u64
 // Two tables together: N in byte 0, how many links differ in byte 1.
 #[no_mangle]
 pub extern "C" fn tracer_pair(old: &[u8], new: &[u8]) -> u64
-    ensures { λ r. ⌜ r ≡ packed pairing-bytes (pair-answer (now (old .entry)) (now (new .entry))) ⌝ }
+    ensures { λ r. ⌜ PacksPair (record { old = now (old .entry); new = now (new .entry) }) r ⌝ }
 {
     let pairing = pair(old, new);
     match pairing {
@@ -79,7 +78,7 @@ pub extern "C" fn tracer_pair(old: &[u8], new: &[u8]) -> u64
 // The entry of a router for a previous hop (255: the packet starts here) and a destination: its code in byte 0.
 #[no_mangle]
 pub extern "C" fn tracer_entry(table: &[u8], router: u64, previous: u64, destination: u64) -> u64
-    ensures { λ r. ⌜ r ≡ packed alone (entry-answer (now (table .entry)) router previous destination) ⌝ }
+    ensures { λ r. ⌜ PacksEntry (record { table = now (table .entry); router = router; previous = previous; destination = destination }) r ⌝ }
 {
     let answer = entry_of(table, router, previous, destination);
     match answer {
@@ -91,8 +90,7 @@ pub extern "C" fn tracer_entry(table: &[u8], router: u64, previous: u64, destina
 // The full interface table of a router, into the output: the bytes written in bytes 1 and 0.
 #[no_mangle]
 pub extern "C" fn tracer_interfaces(table: &[u8], router: u64, out: &mut [u8]) -> u64
-    ensures { λ r. ⌜ (r ≡ packed alone (interfaces-answer (now (table .entry)) router (now (out .entry))))
-        × (now (out .exit) ≡ interfaces-after (now (table .entry)) router (now (out .entry))) ⌝ }
+    ensures { λ r. ⌜ PacksInterfaces (record { table = now (table .entry); router = router; out = now (out .entry) }) r (now (out .exit)) ⌝ }
 {
     let writing = interfaces(table, router, out);
     match writing {
@@ -109,9 +107,8 @@ pub extern "C" fn tracer_fill(
     costs: &mut [u32],
     sets: &mut [u64],
 ) -> u64
-    ensures { λ r. ⌜ (r ≡ packed alone (fill-answer (now (table .entry)) destination (now (costs .entry)) (now (sets .entry))))
-        × (now (costs .exit) ≡ costs-after (now (table .entry)) destination (now (costs .entry)) (now (sets .entry)))
-        × (now (sets .exit) ≡ sets-after (now (table .entry)) destination (now (costs .entry)) (now (sets .entry))) ⌝ }
+    ensures { λ r. ⌜ PacksFill (record { table = now (table .entry); destination = destination; costs = now (costs .entry); sets = now (sets .entry) })
+        r (now (costs .exit)) (now (sets .exit)) ⌝ }
 {
     let filling = fill(table, destination, costs, sets);
     match filling {
@@ -123,7 +120,7 @@ pub extern "C" fn tracer_fill(
 // A next-hop set: the chosen hop in byte 0, the size in byte 1.
 #[no_mangle]
 pub extern "C" fn tracer_chosen(set: u64) -> u64
-    ensures { λ r. ⌜ r ≡ chosen-bytes (chosen-answer set) ⌝ }
+    ensures { λ r. ⌜ PacksChosen (record { set = set }) r ⌝ }
 {
     (chosen(set) as u64) + (size(set) as u64) * BYTE_1
 }
@@ -138,17 +135,23 @@ pub extern "C" fn tracer_path(
     views: &[u8],
     trace: &mut [u8],
 ) -> u64
-    ensures { λ r. ⌜ (r ≡ packed ending-bytes (path-answer (now (old .entry)) (now (new .entry)) source destination (now (views .entry)) (now (trace .entry))))
-        × (now (trace .exit) ≡ trace-after (now (old .entry)) (now (new .entry)) source destination (now (views .entry)) (now (trace .entry))) ⌝ }
+    ensures { λ r. ⌜ PacksPath (record {
+      old = now (old .entry);
+      new = now (new .entry);
+      source = source;
+      destination = destination;
+      views = now (views .entry);
+      trace = now (trace .entry);
+    }) r (now (trace .exit)) ⌝ }
 {
-    let tracing = path(old, new, source, destination, views, trace);
-    match tracing {
-        Tracing::Ended(e) => {
+    let answer = path(old, new, source, destination, views, trace);
+    match answer {
+        PathAnswer::Ended(e) => {
             let outcome = e.outcome;
             let code = outcome_code(outcome);
             (e.router as u64) + (e.hops as u64) * BYTE_1 + (code as u64) * BYTE_2
         }
-        Tracing::Refused {
+        PathAnswer::Refused {
             number,
             table,
             place,
@@ -177,7 +180,7 @@ fn name_word(naming: Naming) -> u64
 // The name of a router in the new table, or else in the old.
 #[no_mangle]
 pub extern "C" fn tracer_name(old: &[u8], new: &[u8], router: u64) -> u64
-    ensures { λ r. ⌜ r ≡ packed (name-bytes (two-names-part (now (old .entry)) (now (new .entry)) router)) (two-names-answer (now (old .entry)) (now (new .entry)) router) ⌝ }
+    ensures { λ r. ⌜ PacksTwoNames (record { old = now (old .entry); new = now (new .entry); router = router }) r ⌝ }
 {
     name_word(naming_in_two(old, new, router))
 }
@@ -185,7 +188,7 @@ pub extern "C" fn tracer_name(old: &[u8], new: &[u8], router: u64) -> u64
 // The name of a router in one table.
 #[no_mangle]
 pub extern "C" fn tracer_name_in(table: &[u8], router: u64) -> u64
-    ensures { λ r. ⌜ r ≡ packed (name-bytes (name-part (now (table .entry)) router)) (name-answer (now (table .entry)) router) ⌝ }
+    ensures { λ r. ⌜ PacksName (record { table = now (table .entry); router = router }) r ⌝ }
 {
     name_word(naming_in(table, router))
 }

@@ -15,9 +15,9 @@ use Rattle.rules.specs.Table.{link-fits, says}
 use Rattle.rules.specs.Links.{joins, weight-in, weight}
 use Rattle.rules.specs.NextHops.{has}
 use Rattle.rules.specs.Demand1.{IsAccepted, SameEnds}
-use Rattle.rules.specs.Questions.{no-more, link-in, link-answer}
+use Rattle.rules.specs.LinkQuestion.{no-more, link-in, link-answer}
 use Rattle.rules.proofs.Basics.{pick-t, All-before, lower-before}
-use Rattle.rules.proofs.Records.{link-passes}
+use Rattle.rules.proofs.TableSections.{link-passes}
 use Rattle.rules.proofs.Weights.{ends-of, wide}
 use Rattle.rules.proofs.Acceptance.{obeys}
 use Rattle.tables.specs.Readings.{links-start, outline-of}

@@ -20,7 +20,7 @@ use Rattle.rules.specs.Links.{joins, weight-in}
 use Rattle.rules.specs.NextHops.{set-of}
 use Rattle.rules.specs.Demand1.{SameEnds}
 use Rattle.rules.proofs.Basics.{pick-t, pick-f, length-values, value-at}
-use Rattle.rules.proofs.Records.{fits-link, link-passes}
+use Rattle.rules.proofs.TableSections.{fits-link, link-passes}
 use Rattle.rules.proofs.Sets.{set-none}
 use Rattle.rules.proofs.Weights.{ends-of}
 use Rattle.links.specs.Links.{next-numbers, link-at, Tells}

@@ -1,12 +1,11 @@
 -- The promise of this crate allows one answer: two webs that it allows are equal.
 -- Assumes nothing.
-use mathlib.Core.Path.{_≡_}
 use mathlib.Core.List.{List}
 use Prim.Native.Nat.{ℕ}
 use Rattle.rules.specs.Promises.{Settles}
 use Rattle.rules.proofs.Uniqueness.{value-settled}
 use Rattle.tables.specs.declared.Outline.{Outline}
-use Rattle.webs.specs.Webs.{web-at}
+use Rattle.webs.specs.Webs.{LaysOut}
 
-pub web-of-settled : (bytes : List ℕ) (t : Outline) → Settles (λ r. r ≡ web-at bytes t)
-web-of-settled bytes t = value-settled (web-at bytes t)
+pub web-of-settled : (bytes : List ℕ) (t : Outline) → Settles (LaysOut bytes t)
+web-of-settled bytes t = value-settled _

@@ -1,4 +1,5 @@
--- A web: links laid out as two arrays. Every content of the arrays means something.
+-- A web: the links of a table as an adjacency matrix, 64 rows of 64 weights (0: no link), and beside it each router's neighbours as a 64-bit number.
+-- Every content of the two arrays means something.
 use mathlib.Core.Path.{_≡_}
 use mathlib.Core.List.{List, [], _∷_, map}
 use Prim.Native.Nat.{ℕ, zero, suc, _+_, _*_, _/_, _%_, _^_, _<_}
@@ -45,6 +46,10 @@ laid bytes start (suc n) =
 -- the web of the links that an outline tells of
 unfoldable pub web-at : List ℕ → Outline → Web
 web-at table t = web-by (weight-in (laid table (t .start) (t .links)))
+
+-- r is that web
+abbrev pub LaysOut : List ℕ → Outline → Web → Type 0
+LaysOut table t r = r ≡ web-at table t
 
 -- ---- one more link
 

@@ -3,13 +3,13 @@ ghost use mathlib.Core.Path.{_≡_};
 ghost use lib.ListN.{replicate};
 ghost use Rattle.rules.specs.Table.{link-fits};
 ghost use Rattle.links.specs.Links.{next-numbers};
-ghost use Rattle.webs.specs.Webs.{web-at, link, near-with, weights-with};
+ghost use Rattle.webs.specs.Webs.{LaysOut, link, near-with, weights-with};
 use links::NextLink;
 use links::link_by_number;
 use sets::no_sets;
 use tables::Outline;
 
-// For each of 64 routers the set of those that it is linked to, and 64 rows of 64 weights.
+// The links of a table as an adjacency matrix: 64 rows of 64 weights, 0 for no link; and for each router its neighbours, as a 64-bit number.
 pub struct Web {
     pub near: [u64; 64],
     pub weights: [u16; 4096],
@@ -84,7 +84,7 @@ fn lay_weight(weights: &mut [u16; 4096], next: NextLink)
 
 // The web of the links that an outline tells of. It is made as one value and its fields are lent in turn: put together at the end they would be copied.
 pub fn web_of(table: &[u8], t: Outline) -> Web
-    ensures { λ r. ⌜ r ≡ web-at (now (table .entry)) t ⌝ }
+    ensures { λ r. ⌜ LaysOut (now (table .entry)) t r ⌝ }
 {
     let mut web = Web {
         near: no_sets(),

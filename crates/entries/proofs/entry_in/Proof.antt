@@ -20,7 +20,8 @@ decide-requires c κs = search needs
 returns : tie.Need-returns
 returns c =
     let p = c .before .before .before .before .before .pre in
-    over-web _ (p .0) _ (p .1) _ (c .before .before .before .web-of .ensures) _ _ _ (p .2) _ (c .before .before .costs-from .ensures) _ (c .before .next-hops .ensures) _ (c .decide .ensures)
+    let w = c .before .before .before in
+    over-web _ (p .0) _ (p .1) _ (w .web-of .ensures) (p .2) _ (c .before .before .costs-from .ensures) _ (c .before .next-hops .ensures) _ (c .decide .ensures)
 
 pub entry-in-spec : {M : Type 1} → statement M
 entry-in-spec =

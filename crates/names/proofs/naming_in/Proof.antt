@@ -19,7 +19,7 @@ cast-if1 : tie.Need-cast-if1
 cast-if1 c = search needs
 
 returns : tie.Need-returns
-returns c = in-above _ _ _ (c .before .before .before .before .before .read .ensures) _ (c .before .before .before .reading2 .given .1) (c .if1 .taken)
+returns c = in-above _ _ (c .before .before .before .before .before .read .ensures) _ (c .before .before .before .reading2 .given .1) (c .if1 .taken)
 
 cast-find : tie.Need-cast-find
 cast-find c = search needs
@@ -28,12 +28,12 @@ find-requires : tie.Need-find-requires
 find-requires c κs = reading-accepted _ _ _ (c .before .before .before .before .before .read .ensures) (c .before .before .before .reading2 .given .1) .0
 
 returns-2 : tie.Need-returns-2
-returns-2 c = in-refused _ _ _ (c .before .before .before .read .ensures) _ _ (c .before .reading .given .1)
+returns-2 c = in-refused _ _ (c .before .before .before .read .ensures) _ _ (c .before .reading .given .1)
 
 returns-3 : tie.Need-returns-3
 returns-3 c =
     let m = c .before .before .before .before in
-    in-found _ _ _ (m .before .before .read .ensures) _ (m .reading2 .given .1) _ (c .before .if1 .left) (c .find .ensures)
+    in-found _ _ (m .before .before .read .ensures) _ (m .reading2 .given .1) _ (c .before .if1 .left) (c .find .ensures)
 
 pub naming-in-spec : {M : Type 1} → statement M
 naming-in-spec =

@@ -38,11 +38,11 @@ returns-2 : tie.Need-returns-2
 returns-2 c =
     let m = c .before .before .before .before .before in
     let o = reading-accepted _ _ _ (m .before .before .read .ensures) (m .first .given .1) in
-    new-refused _ _ (o .0) _ _ (reading-refused _ _ _ _ (c .before .before .before .read2 .ensures) (c .before .second2 .given .1))
+    new-refused _ (o .0) _ _ (reading-refused _ _ _ _ (c .before .before .before .read2 .ensures) (c .before .second2 .given .1))
 
 returns-3 : tie.Need-returns-3
 returns-3 c =
-    old-refused _ _ _ _ (reading-refused _ _ _ _ (c .before .before .before .read .ensures) (c .before .first2 .given .1))
+    old-refused _ _ _ (reading-refused _ _ _ _ (c .before .before .before .read .ensures) (c .before .first2 .given .1))
 
 pub pair-spec : {M : Type 1} → statement M
 pair-spec =

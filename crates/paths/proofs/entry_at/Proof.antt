@@ -1,15 +1,18 @@
 -- `paths::entry_at` meets its contract.
 -- Assumes nothing.
 use borrow.Author.Needs.{needs}
-use Rattle.paths.proofs.Walking.{found-home, found-new, found-old}
+use Rattle.paths.proofs.Following.{found-home, found-new, found-old}
 use Rattle.paths.proofs.entry_at.Statement.{statement}
 use Rattle.paths.proofs.entry_at.Tie as tie
 
 returns : tie.Need-returns
-returns c = found-home _ _ _ _ _ _ _ (c .if1 .taken)
+returns c = found-home _ _ _ _ _ _ (c .if1 .taken)
 
 element-copy-out-if2 : tie.Need-element-copy-out-if2
 element-copy-out-if2 c = search needs
+
+add-decide : tie.Need-add-decide
+add-decide c = search needs
 
 mul-decide : tie.Need-mul-decide
 mul-decide c = search needs
@@ -21,7 +24,12 @@ decide-requires : tie.Need-decide-requires
 decide-requires c κs = search needs
 
 returns-2 : tie.Need-returns-2
-returns-2 c = found-new _ _ _ _ _ _ _ _ (c .before .before .if2 .taken) (c .decide .ensures)
+returns-2 c =
+    let m = c .before .before in
+    found-new _ _ _ _ _ _ (m .before .before .before .pre .0) _ (m .if2 .taken) (c .decide .ensures)
+
+add-decide-2 : tie.Need-add-decide-2
+add-decide-2 c = search needs
 
 mul-decide-2 : tie.Need-mul-decide-2
 mul-decide-2 c = search needs
@@ -33,7 +41,9 @@ decide-requires-2 : tie.Need-decide-requires-2
 decide-requires-2 c κs = search needs
 
 returns-3 : tie.Need-returns-3
-returns-3 c = found-old _ _ _ _ _ _ _ _ (c .before .before .if2 .left) (c .decide2 .ensures)
+returns-3 c =
+    let m = c .before .before in
+    found-old _ _ _ _ _ _ (m .before .before .before .pre .0) _ (m .if2 .left) (c .decide2 .ensures)
 
 pub entry-at-spec : {M : Type 1} → statement M
 entry-at-spec =
@@ -41,10 +51,12 @@ entry-at-spec =
     (tie.spec
     returns
     element-copy-out-if2
+    add-decide
     mul-decide
     element-copy-out-decide
     decide-requires
     returns-2
+    add-decide-2
     mul-decide-2
     element-copy-out-decide-2
     decide-requires-2

@@ -2,7 +2,7 @@
 -- Assumes nothing.
 use mathlib.Core.Path.{sym, ap}
 use borrow.Author.Needs.{needs}
-use Rattle.paths.specs.Tracings.{outcome-number}
+use Rattle.paths.specs.PathAnswers.{code-of}
 use Rattle.paths.proofs.outcome_code.Statement.{statement}
 use Rattle.paths.proofs.outcome_code.Tie as tie
 
@@ -19,20 +19,20 @@ enum-told-4 : tie.Need-enum-told-4
 enum-told-4 c = search needs
 
 returns : tie.Need-returns
-unfolding outcome-number
-returns c = sym (ap outcome-number (c .enum-told .given .1))
+unfolding code-of
+returns c = sym (ap code-of (c .enum-told .given .1))
 
 returns-2 : tie.Need-returns-2
-unfolding outcome-number
-returns-2 c = sym (ap outcome-number (c .enum-told2 .given .1))
+unfolding code-of
+returns-2 c = sym (ap code-of (c .enum-told2 .given .1))
 
 returns-3 : tie.Need-returns-3
-unfolding outcome-number
-returns-3 c = sym (ap outcome-number (c .enum-told3 .given .1))
+unfolding code-of
+returns-3 c = sym (ap code-of (c .enum-told3 .given .1))
 
 returns-4 : tie.Need-returns-4
-unfolding outcome-number
-returns-4 c = sym (ap outcome-number (c .enum-told4 .given .1))
+unfolding code-of
+returns-4 c = sym (ap code-of (c .enum-told4 .given .1))
 
 pub outcome-code-spec : {M : Type 1} → statement M
 outcome-code-spec =

@@ -3,7 +3,7 @@
 use mathlib.Core.Path.{sym, _∙_}
 use borrow.Author.Tests.{eq-eqb, ne-eqb}
 use Rattle.rules.proofs.Basics.{pick-t, pick-f}
-use Rattle.paths.specs.Tracings.{outcome-of}
+use Rattle.paths.specs.PathAnswers.{outcome-of}
 use Rattle.paths.proofs.outcome_of.Statement.{statement}
 use Rattle.paths.proofs.outcome_of.Tie as tie
 

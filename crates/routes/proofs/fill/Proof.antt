@@ -1,8 +1,8 @@
 -- `routes::fill` meets its contract: the refusal of the table, 9, 10, or the outputs filled.
 -- Assumes nothing.
-use Rattle.tables.proofs.Asked.{reading-accepted, reading-refused}
-use Rattle.routes.proofs.Answers.{table-refused, router-refused, refused-10, roomy, filled}
+use native.Mathlib.Omega.{arith}
 use borrow.Author.Needs.{needs}
+use Rattle.routes.proofs.Answers.{table-refused, number-refused, asked, filled}
 use Rattle.routes.proofs.fill.Statement.{statement}
 use Rattle.routes.proofs.fill.Tie as tie
 
@@ -12,39 +12,26 @@ read-requires c κs = search needs
 enum-known-reading : tie.Need-enum-known-reading
 enum-known-reading c = search needs
 
-cast-if1 : tie.Need-cast-if1
-cast-if1 c = search needs
+fill-number-requires : tie.Need-fill-number-requires
+fill-number-requires c κs = search needs
 
 returns : tie.Need-returns
 returns c =
     let m = c .before .before .before in
-    let o = reading-accepted _ _ _ (m .before .before .read .ensures) (m .reading .given .1) in
-    router-refused _ _ _ _ (o .0) _ (o .1) (c .if1 .taken)
-
-cast-is-short : tie.Need-cast-is-short
-cast-is-short c = search needs
-
-is-short-requires : tie.Need-is-short-requires
-is-short-requires c κs = search needs
-
-returns-2 : tie.Need-returns-2
-returns-2 c =
-    let i = c .before .before .before in
-    let m = i .before .before .before in
-    let o = reading-accepted _ _ _ (m .before .before .read .ensures) (m .reading .given .1) in
-    refused-10 _ _ _ _ (o .0) _ (o .1) (i .if1 .left) _ (c .before .is-short .ensures) (c .if2 .taken)
+    number-refused _ _ _ (m .before .before .read .ensures) (m .reading .given .1) _ (c .before .fill-number .ensures) (c .if1 .taken)
 
 cast-fill-accepted : tie.Need-cast-fill-accepted
-cast-fill-accepted c = search needs
+cast-fill-accepted c =
+    let m = c .before .before .before in
+    let g = m .before .before .before .before .before .before .args in
+    omega (arith, asked (record { table = _; destination = _; costs = g .costs .now; sets = g .sets .now }) _ _ (m .before .before .read .ensures) (m .reading .given .1) _ (c .before .fill-number .ensures) (c .if1 .left) .2)
 
 fill-accepted-requires : tie.Need-fill-accepted-requires
 fill-accepted-requires c κs =
     let l = c .before .before in
-    let i = l .before .before .before in
-    let m = i .before .before .before in
-    let o = reading-accepted _ _ _ (m .before .before .read .ensures) (m .reading .given .1) in
-    let r = roomy _ _ _ _ (l .before .is-short .ensures) (l .if2 .left) in
-    (o .0, o .1, i .if1 .left, r .0, r .1)
+    let m = l .before .before .before in
+    let g = m .before .before .before .before .before .before .args in
+    asked (record { table = _; destination = _; costs = g .costs .now; sets = g .sets .now }) _ _ (m .before .before .read .ensures) (m .reading .given .1) _ (l .before .fill-number .ensures) (l .if1 .left)
 
 enum-known-reading-2 : tie.Need-enum-known-reading-2
 enum-known-reading-2 c = search needs
@@ -55,17 +42,15 @@ same-length c = search needs
 same-length-2 : tie.Need-same-length-2
 same-length-2 c = search needs
 
-returns-3 : tie.Need-returns-3
-returns-3 c =
+returns-2 : tie.Need-returns-2
+returns-2 c =
     let l = c .before .before .before .before .before .before .before in
-    let i = l .before .before .before in
-    let m = i .before .before .before in
-    let o = reading-accepted _ _ _ (m .before .before .read .ensures) (m .reading .given .1) in
+    let m = l .before .before .before in
     let w = c .before .before .before .before .fill-accepted .ensures in
-    filled _ _ _ _ (o .0) _ (o .1) (i .if1 .left) _ (l .before .is-short .ensures) (l .if2 .left) _ _ (w .0) (w .1)
+    filled _ _ _ (m .before .before .read .ensures) (m .reading .given .1) _ (l .before .fill-number .ensures) (l .if1 .left) _ _ (w .0) (w .1)
 
-returns-4 : tie.Need-returns-4
-returns-4 c = table-refused _ _ _ _ _ _ (reading-refused _ _ _ _ (c .before .before .before .read .ensures) (c .before .reading2 .given .1))
+returns-3 : tie.Need-returns-3
+returns-3 c = table-refused _ _ _ _ (c .before .before .before .read .ensures) (c .before .reading2 .given .1)
 
 pub fill-spec : {M : Type 1} → statement M
 fill-spec =
@@ -73,15 +58,12 @@ fill-spec =
     (tie.spec
     read-requires
     enum-known-reading
-    cast-if1
+    fill-number-requires
     returns
-    cast-is-short
-    is-short-requires
-    returns-2
     cast-fill-accepted
     fill-accepted-requires
     enum-known-reading-2
     same-length
     same-length-2
-    returns-3
-    returns-4)
+    returns-2
+    returns-3)

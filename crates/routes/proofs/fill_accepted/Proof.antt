@@ -1,6 +1,5 @@
 -- `routes::fill_accepted` meets its contract: the table's own costs and sets, found over its web.
 -- Assumes nothing.
-use native.Mathlib.Omega.{arith}
 use borrow.Author.Needs.{needs}
 use Rattle.tables.proofs.Asked.{few-routers}
 use Rattle.routes.proofs.HandedOver.{costs-found, sets-found}
@@ -36,11 +35,8 @@ returns c =
     let p = m .before .before .before .before .before .before .pre in
     let h = c .before .before .before .before .hand-over .ensures in
     let e = m .before .before .web-of .ensures in
-    let n = few-routers _ (p .0) _ (p .1) in
-    let f = m .before .costs-from .ensures in (
-      costs-found _ (p .0) _ (p .1) _ e _ _ n _ f _ _ (h .0),
-      sets-found _ (p .0) _ (p .1) _ e _ _ n _ f _ _ (omega (arith, p .2, n)) _ (m .sets-by .ensures) (h .1),
-    )
+    let f = m .before .costs-from .ensures in
+    (costs-found _ (p .0) _ (p .1) _ _ _ e _ _ f (h .0), sets-found _ (p .0) _ (p .1) _ _ _ e _ _ f (p .2) _ (m .sets-by .ensures) (h .1))
 
 pub fill-accepted-spec : {M : Type 1} → statement M
 fill-accepted-spec =

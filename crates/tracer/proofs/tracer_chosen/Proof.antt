@@ -3,7 +3,7 @@
 use mathlib.Core.Path.{ap₂}
 use Prim.Native.Nat.{_+_, _*_}
 use borrow.Author.Needs.{needs}
-use Rattle.rules.specs.Questions.{chosen-answer}
+use Rattle.rules.specs.ChosenQuestion.{chosen-answer}
 use Rattle.tracer.specs.Packed.{chosen-bytes}
 use Rattle.tracer.proofs.tracer_chosen.Statement.{statement}
 use Rattle.tracer.proofs.tracer_chosen.Tie as tie

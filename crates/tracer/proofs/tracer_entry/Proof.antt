@@ -2,7 +2,7 @@
 -- Assumes nothing.
 use mathlib.Core.Path.{refl, _∙_}
 use borrow.Author.Needs.{needs}
-use Rattle.rules.proofs.Lengths.{places-near}
+use Rattle.rules.proofs.EntryQuestion.{entry-proved}
 use Rattle.entries.specs.Entries.{entry-numbers}
 use Rattle.tracer.specs.Packed.{alone}
 use Rattle.tracer.proofs.Packing.{given, refused, near}
@@ -26,7 +26,7 @@ enum-known-answer-2 c = search needs
 
 refused-requires : tie.Need-refused-requires
 unfolding entry-numbers
-refused-requires c κs = near entry-numbers (c .before .before .before .entry-of .ensures .0) (c .before .answer2 .given .1) refl (places-near .of-entry _ _ _ _)
+refused-requires c κs = near entry-numbers (c .before .before .before .entry-of .ensures .0) (c .before .answer2 .given .1) refl (entry-proved _ .refusals .listed .near)
 
 returns : tie.Need-returns
 unfolding entry-numbers

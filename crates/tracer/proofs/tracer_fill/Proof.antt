@@ -2,8 +2,8 @@
 -- Assumes nothing.
 use mathlib.Core.Path.{refl, _∙_}
 use borrow.Author.Needs.{needs}
-use Rattle.rules.specs.Questions.{fill-answer}
-use Rattle.rules.proofs.Lengths.{places-near}
+use Rattle.rules.specs.FillQuestion.{fill-answer}
+use Rattle.rules.proofs.FillQuestion.{fill-proved}
 use Rattle.routes.specs.Fillings.{filling-numbers}
 use Rattle.tracer.specs.Packed.{alone}
 use Rattle.tracer.proofs.Packing.{given, refused, near}
@@ -24,7 +24,7 @@ enum-known-filling-2 c = search needs
 
 refused-requires : tie.Need-refused-requires
 unfolding filling-numbers
-refused-requires c κs = near filling-numbers (c .before .before .before .before .before .before .before .fill .ensures .0) (c .before .filling2 .given .1) refl (places-near .of-fill _ _ _ _)
+refused-requires c κs = near filling-numbers (c .before .before .before .before .before .before .before .fill .ensures .0) (c .before .filling2 .given .1) refl (fill-proved _ .refusals .listed .near)
 
 same-length : tie.Need-same-length
 same-length c = search needs
@@ -36,7 +36,7 @@ returns : tie.Need-returns
 unfolding filling-numbers
 returns c =
     let e = c .before .before .before .before .before .before .before .fill .ensures in
-    (given filling-numbers {a = fill-answer _ _ _ _} (e .0) (c .before .filling .given .1) alone refl, e .2, e .3)
+    (given filling-numbers {a = fill-answer _} (e .0) (c .before .filling .given .1) alone refl, e .2, e .3)
 
 same-length-3 : tie.Need-same-length-3
 same-length-3 c = search needs
@@ -48,7 +48,7 @@ returns-2 : tie.Need-returns-2
 unfolding filling-numbers
 returns-2 c =
     let e = c .before .before .before .before .before .before .before .before .fill .ensures in
-    (c .refused .ensures ∙ refused filling-numbers {a = fill-answer _ _ _ _} (e .0) (c .before .before .filling2 .given .1) alone refl refl, e .2, e .3)
+    (c .refused .ensures ∙ refused filling-numbers {a = fill-answer _} (e .0) (c .before .before .filling2 .given .1) alone refl refl, e .2, e .3)
 
 pub tracer-fill-spec : {M : Type 1} → statement M
 tracer-fill-spec =

@@ -2,7 +2,7 @@
 -- Assumes nothing.
 use mathlib.Core.Path.{refl, _∙_}
 use borrow.Author.Needs.{needs}
-use Rattle.rules.proofs.Lengths.{places-near}
+use Rattle.rules.proofs.InterfacesQuestion.{interfaces-proved}
 use Rattle.interfaces.specs.Interfaces.{writing-numbers}
 use Rattle.tracer.specs.Packed.{alone}
 use Rattle.tracer.proofs.Packing.{given, refused, near}
@@ -23,7 +23,7 @@ enum-known-writing-2 c = search needs
 
 refused-requires : tie.Need-refused-requires
 unfolding writing-numbers
-refused-requires c κs = near writing-numbers (c .before .before .before .before .before .interfaces .ensures .0) (c .before .writing2 .given .1) refl (places-near .of-interfaces _ _ _)
+refused-requires c κs = near writing-numbers (c .before .before .before .before .before .interfaces .ensures .0) (c .before .writing2 .given .1) refl (interfaces-proved _ .refusals .listed .near)
 
 same-length : tie.Need-same-length
 same-length c = search needs

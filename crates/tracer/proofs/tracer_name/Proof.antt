@@ -2,8 +2,7 @@
 -- Assumes nothing.
 use mathlib.Core.Path.{_∙_}
 use borrow.Author.Needs.{needs}
-use Rattle.rules.proofs.Lengths.{places-near}
-use Rattle.rules.proofs.Names.{parts-fit}
+use Rattle.rules.proofs.NameQuestions.{two-names-proved}
 use Rattle.tracer.proofs.Packing.{name-packed, name-fits}
 use Rattle.tracer.proofs.tracer_name.Statement.{statement}
 use Rattle.tracer.proofs.tracer_name.Tie as tie
@@ -14,7 +13,7 @@ naming-in-two-requires c κs = search needs
 name-word-requires : tie.Need-name-word-requires
 name-word-requires c κs =
     let e = c .naming-in-two .ensures in
-    name-fits _ _ _ (e .0) (e .1) (places-near .of-two-names _ _ _) _ (parts-fit .of-two-names _ _ _)
+    name-fits _ _ _ (e .0) (e .1) (two-names-proved _ .refusals .listed .near) _ (two-names-proved _ .fits)
 
 returns : tie.Need-returns
 returns c =

@@ -2,8 +2,7 @@
 -- Assumes nothing.
 use mathlib.Core.Path.{_∙_}
 use borrow.Author.Needs.{needs}
-use Rattle.rules.proofs.Lengths.{places-near}
-use Rattle.rules.proofs.Names.{parts-fit}
+use Rattle.rules.proofs.NameQuestions.{name-proved}
 use Rattle.tracer.proofs.Packing.{name-packed, name-fits}
 use Rattle.tracer.proofs.tracer_name_in.Statement.{statement}
 use Rattle.tracer.proofs.tracer_name_in.Tie as tie
@@ -14,7 +13,7 @@ naming-in-requires c κs = search needs
 name-word-requires : tie.Need-name-word-requires
 name-word-requires c κs =
     let e = c .naming-in .ensures in
-    name-fits _ _ _ (e .0) (e .1) (places-near .of-name _ _) _ (parts-fit .of-name _ _)
+    name-fits _ _ _ (e .0) (e .1) (name-proved _ .refusals .listed .near) _ (name-proved _ .fits)
 
 returns : tie.Need-returns
 returns c =

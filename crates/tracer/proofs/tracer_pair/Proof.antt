@@ -2,7 +2,7 @@
 -- Assumes nothing.
 use mathlib.Core.Path.{refl, _∙_}
 use borrow.Author.Needs.{needs}
-use Rattle.rules.proofs.Lengths.{places-near}
+use Rattle.rules.proofs.PairQuestion.{pair-proved}
 use Rattle.pairs.specs.Pairings.{pairing-numbers}
 use Rattle.tracer.specs.Packed.{pairing-bytes}
 use Rattle.tracer.proofs.Packing.{given, refused, near}
@@ -32,7 +32,7 @@ enum-known-pairing-2 c = search needs
 
 refused-requires : tie.Need-refused-requires
 unfolding pairing-numbers
-refused-requires c κs = near pairing-numbers (c .before .before .before .pair .ensures .0) (c .before .pairing2 .given .1) refl (places-near .of-pair _ _)
+refused-requires c κs = near pairing-numbers (c .before .before .before .pair .ensures .0) (c .before .pairing2 .given .1) refl (pair-proved _ .refusals .listed .near)
 
 returns : tie.Need-returns
 unfolding pairing-numbers pairing-bytes

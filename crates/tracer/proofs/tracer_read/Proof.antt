@@ -2,7 +2,7 @@
 -- Assumes nothing.
 use mathlib.Core.Path.{refl, _∙_}
 use borrow.Author.Needs.{needs}
-use Rattle.rules.proofs.Lengths.{places-near}
+use Rattle.rules.proofs.ReadQuestion.{read-proved}
 use Rattle.tables.specs.Readings.{reading-numbers}
 use Rattle.tracer.specs.Packed.{reading-bytes}
 use Rattle.tracer.proofs.Packing.{given, refused, near}
@@ -32,7 +32,7 @@ enum-known-reading-2 c = search needs
 
 refused-requires : tie.Need-refused-requires
 unfolding reading-numbers
-refused-requires c κs = near reading-numbers (c .before .before .before .read .ensures .0) (c .before .reading2 .given .1) refl (places-near .of-read _)
+refused-requires c κs = near reading-numbers (c .before .before .before .read .ensures .0) (c .before .reading2 .given .1) refl (read-proved _ .refusals .listed .near)
 
 returns : tie.Need-returns
 unfolding reading-numbers reading-bytes

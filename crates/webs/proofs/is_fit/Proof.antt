@@ -3,7 +3,7 @@
 use mathlib.Core.Path.{sym}
 use native.Mathlib.Omega.{arith}
 use borrow.Author.Needs.{needs}
-use Rattle.rules.proofs.Records.{link-passes}
+use Rattle.rules.proofs.TableSections.{link-passes}
 use Rattle.webs.proofs.Laying.{unfit}
 use Rattle.webs.proofs.is_fit.Statement.{statement}
 use Rattle.webs.proofs.is_fit.Tie as tie
