@@ -25,13 +25,13 @@ use Rattle.entries.specs.declared.Entry.the-variants.{Deliver, Discard, NoRoute
 use Rattle.entries.specs.Entries.{entry-told, rules-by}
 use Rattle.paths.specs.declared.Outcome.the-variants.{Delivered, Discarded, NoRoute, Lost}
 use Rattle.paths.specs.declared.Ending.{Ending}
-use Rattle.paths.specs.Following.{part, rules-over, site-over, outcome-case, ending-after, written, ending-word, ending-in, Standing, arriving, leaving, Arrives, Leaves, Lent, path-over}
+use Rattle.paths.specs.Following.{carriers, numbers-from, rules-over, site-over, outcome-case, ending-after, written, ending-word, ending-in, Standing, arriving, leaving, Arrives, Leaves, Lent, path-over}
 use Rattle.paths.proofs.EndingWords.{ending-again}
 
 -- ---- the parts of the guides
 
--- router i's number in the part from a place on
-in-part : (guides : List ℕ) (at i : ℕ) → i < 64 → getD (part at guides) i 0 ≡ getD guides (at + i) 0
+-- router i's number among those from a place on
+in-part : (guides : List ℕ) (at i : ℕ) → i < 64 → getD (numbers-from at guides) i 0 ≡ getD guides (at + i) 0
 in-part guides at i h = getD-take 64 (drop at guides) i 0 h ∙ getD-drop at guides i 0
 
 -- ---- the entry that a router finds
@@ -225,7 +225,7 @@ module _ (guides : List ℕ) (routers s d : ℕ) (views trace : List ℕ) (lent 
   unfolding path-over path-in site-over
   short-path = short (site-over d guides) _ joined (routers - 1) 0 s starts-here (lent .source)
     where
-      joined : (i k : ℕ) → i < 64 → has (getD (part 128 guides) i 0) k ≡ true → k < 64
+      joined : (i k : ℕ) → i < 64 → has (getD (numbers-from carriers guides) i 0) k ≡ true → k < 64
       joined i k b c = member-below (getD guides (128 + i) 0) k (lent .fit (128 + i)) (rw (in-part guides 128 i b) at c)
 
   -- the list holds the first N − 1 views and zeros behind them

@@ -15,7 +15,7 @@ use Rattle.tables.specs.declared.Outline.{Outline}
 use Rattle.webs.specs.declared.Web.{Web}
 use Rattle.webs.specs.Webs.{web-by, web-at, web-weight}
 use Rattle.search.specs.Search.{costs-from, cost-at, hops-over}
-use Rattle.paths.specs.Following.{part, sets-of, near-of, laid, guided, guides-to}
+use Rattle.paths.specs.Following.{old-sets, new-sets, carriers, numbers-from, sets-of, near-of, laid, guided, guides-to}
 
 -- ---- three parts of 64 numbers
 
@@ -58,13 +58,13 @@ module _ (a b c : List ℕ) (la : length a ≡ 64) (lb : length b ≡ 64) (lc : 
         ∙ append-nil (a ++ b ++ new)
 
   -- the parts of the three together
-  first-part : part 0 (a ++ b ++ c) ≡ a
+  first-part : numbers-from old-sets (a ++ b ++ c) ≡ a
   first-part = ap (take 64) (append-assoc a b c) ∙ take-at a (b ++ c) 64 la
 
-  second-part : part 64 (a ++ b ++ c) ≡ b
+  second-part : numbers-from new-sets (a ++ b ++ c) ≡ b
   second-part = ap (λ l. take 64 (drop 64 l)) (append-assoc a b c) ∙ ap (take 64) (drop-at a (b ++ c) 64 la) ∙ take-at b c 64 lb
 
-  third-part : part 128 (a ++ b ++ c) ≡ c
+  third-part : numbers-from carriers (a ++ b ++ c) ≡ c
   third-part = ap (take 64) (drop-at (a ++ b) c 128 (length-append a b ∙ omega arith)) ∙ take-all 64 c (omega arith)
 
 -- ---- what a table says
@@ -137,11 +137,11 @@ module _ (old : List ℕ) (o : Outline) (new : List ℕ) (n : Outline) (d : ℕ)
         let fit = All-append (λ x. x < 2 ^ 64) (A ++ B) C (All-append _ A B (sets-fit old o d) (sets-fit new n d)) (near-fit new n d) in
         rw g (All-at _ (A ++ B ++ C) 0 fit (omega arith))
 
-    pub view-part : (v : View) → part (by v 0 64) guides ≡ by v A B
+    pub view-part : (v : View) → numbers-from (by v old-sets new-sets) guides ≡ by v A B
     unfolding guides-to
-    view-part old-view = ap (part 0) g ∙ first-part A B C (sets-long old o d) (sets-long new n d) (near-long new n d)
-    view-part new-view = ap (part 64) g ∙ second-part A B C (sets-long old o d) (sets-long new n d) (near-long new n d)
+    view-part old-view = ap (numbers-from old-sets) g ∙ first-part A B C (sets-long old o d) (sets-long new n d) (near-long new n d)
+    view-part new-view = ap (numbers-from new-sets) g ∙ second-part A B C (sets-long old o d) (sets-long new n d) (near-long new n d)
 
-    pub links-part : part 128 guides ≡ C
+    pub links-part : numbers-from carriers guides ≡ C
     unfolding guides-to
-    links-part = ap (part 128) g ∙ third-part A B C (sets-long old o d) (sets-long new n d) (near-long new n d)
+    links-part = ap (numbers-from carriers) g ∙ third-part A B C (sets-long old o d) (sets-long new n d) (near-long new n d)

@@ -1,12 +1,12 @@
 -- The code of an outcome, the answer to the path question, and the trace afterwards, are settled.
 -- Assumes nothing.
-use mathlib.Core.Path.{_≡_, refl, sym, _∙_, ap}
+use mathlib.Core.Path.{_≡_, refl, ap}
 use Prim.Native.Nat.{ℕ}
 use Rattle.rules.specs.Words.{_=?_, pick}
 use Rattle.rules.specs.Answers.{Answer}
 use Rattle.rules.specs.PathQuestion.{PathInputs, Ending}
 use Rattle.rules.specs.Promises.{Settles, SettlesBoth, HadAgain}
-use Rattle.rules.proofs.Uniqueness.{numbers-tell-apart, value-settled, refused-again}
+use Rattle.rules.proofs.Uniqueness.{numbers-tell-apart, outputs-settle, value-settled, refused-again}
 use Rattle.paths.specs.declared.Outcome.{Outcome}
 use Rattle.paths.specs.declared.Outcome.the-variants.{Delivered, Discarded, NoRoute, Lost}
 use Rattle.paths.specs.declared.PathAnswer.{PathAnswer}
@@ -40,7 +40,4 @@ had-again (Refused number table place) own = refused-again number _ _ own
 
 -- the answer, and the trace afterwards
 pub path-settled : (q : PathInputs) → SettlesBoth (AnswersPath q)
-path-settled q x y p r = λ z. (
-  numbers-tell-apart _ _ path-answer-numbers Numbered again had-again (x .0) (y .0) (p .1) (r .1) (p .0 ∙ sym (r .0)) z,
-  (p .2 ∙ sym (r .2)) z,
-)
+path-settled q = outputs-settle _ _ _ path-answer-numbers Numbered again had-again _ _

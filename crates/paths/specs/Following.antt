@@ -19,9 +19,19 @@ use Rattle.paths.specs.PathAnswers.{code-of, outcome-of}
 
 -- ---- the guides
 
--- the numbers of 64 routers, from a place on: 0 the old view's sets, 64 the new view's, 128 who is joined by a link that carries
-abbrev pub part : ℕ → List ℕ → List ℕ
-part at guides = take 64 (drop at guides)
+-- where each begins: the old view's sets, the new view's, and the neighbours over links that carry
+abbrev pub old-sets : ℕ
+old-sets = 0
+
+abbrev pub new-sets : ℕ
+new-sets = 64
+
+abbrev pub carriers : ℕ
+carriers = 128
+
+-- the numbers of 64 routers, from a place on
+abbrev pub numbers-from : ℕ → List ℕ → List ℕ
+numbers-from at guides = take 64 (drop at guides)
 
 -- each router goes by its own set
 unfoldable pub rules-over : List ℕ → Rules
@@ -33,7 +43,11 @@ rules-over sets = record {
 
 -- what a packet for d meets, whatever the guides hold
 unfoldable pub site-over : ℕ → List ℕ → Site
-site-over d guides = record { destination = d; rules = λ v. rules-over (part (by v 0 64) guides); carries = λ i k. has (getD (part 128 guides) i 0) k }
+site-over d guides = record {
+  destination = d;
+  rules = λ v. rules-over (numbers-from (by v old-sets new-sets) guides);
+  carries = λ i k. has (getD (numbers-from carriers guides) i 0) k;
+}
 
 -- ---- the guides of tables
 
@@ -52,7 +66,7 @@ laid at numbers guides = paste guides at numbers 64
 
 -- the guides with a table laid: its sets for d from a place on, and its links as those that carry
 unfoldable pub guided : ℕ → List ℕ → Outline → ℕ → List ℕ → List ℕ
-guided at table t d guides = laid 128 (near-of table t) (laid at (sets-of table t d) guides)
+guided at table t d guides = laid carriers (near-of table t) (laid at (sets-of table t d) guides)
 
 -- the guides of two tables: the sets of both, and the links of the new one
 unfoldable pub guides-to : List ℕ → Outline → List ℕ → Outline → ℕ → List ℕ

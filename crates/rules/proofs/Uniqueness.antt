@@ -5,7 +5,7 @@ use mathlib.Core.Logic.{_≢_}
 use Prim.Native.Nat.{ℕ}
 use borrow.Author.Tests.{ne-eqb}
 use Rattle.rules.specs.Words.{_=?_, pick}
-use Rattle.rules.specs.Promises.{Settles, NumbersTellApart, NumbersSettle, EquationsSettle, PairsSettle}
+use Rattle.rules.specs.Promises.{Settles, NumbersTellApart, NumbersSettle, OutputsSettle, EquationsSettle, PairsSettle}
 use Rattle.rules.proofs.Basics.{pick-f}
 
 pub numbers-tell-apart : NumbersTellApart
@@ -13,6 +13,12 @@ numbers-tell-apart A B numbers Own again had x y own own′ e = sym (had x own) 
 
 pub numbers-settle : NumbersSettle
 numbers-settle A B numbers Own again had said x y p q = numbers-tell-apart A B numbers Own again had x y (p .1) (q .1) (p .0 ∙ sym (q .0))
+
+pub outputs-settle : OutputsSettle
+outputs-settle A B C numbers Own again had said held x y p q = λ i. (
+  numbers-settle A B numbers Own again had said (x .0) (y .0) (p .0, p .1) (q .0, q .1) i,
+  (p .2 ∙ sym (q .2)) i,
+)
 
 pub equations-settle : EquationsSettle
 equations-settle A B numbers again had said x y p q =

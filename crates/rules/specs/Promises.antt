@@ -30,6 +30,12 @@ abbrev pub EquationsSettle : Type 1
 EquationsSettle =
     (A B : Type 0) (numbers : A → B) (again : B → A) → ((x : A) → again (numbers x) ≡ x) → (said : B) → Settles (λ (x : A). numbers x ≡ said)
 
+-- And so does a promise of the numbers and of what a lent output holds.
+abbrev pub OutputsSettle : Type 1
+OutputsSettle =
+    (A B C : Type 0) (numbers : A → B) (Own : A → Type 0) (again : B → A) → HadAgain numbers Own again
+    → (said : B) (held : C) → SettlesBoth (λ (x : A) (out : C). (numbers x ≡ said) × Own x × (out ≡ held))
+
 -- an answer and a lent output beside it, each settled
 abbrev pub PairsSettle : Type 1
 PairsSettle =
