@@ -3,7 +3,7 @@
 use mathlib.Core.Path.{_≡_, refl, sym, _∙_, ap}
 use mathlib.Core.Logic.{_≢_}
 use mathlib.Core.Bool.{Bool, true, false, not}
-use mathlib.Core.List.{List, [], _∷_, _++_}
+use mathlib.Core.List.{List, [], _∷_}
 use Prim.Native.Nat.{ℕ, _-_, _≤_, _<_}
 use native.Mathlib.Nat.{zero-add}
 use native.Mathlib.Omega.{arith}
@@ -14,8 +14,8 @@ use Rattle.rules.specs.Words.{_<?_, pick, Line, _when_, every}
 use Rattle.rules.specs.Table.{says}
 use Rattle.rules.specs.Paths.{Path, Outcome, delivered, discarded, unrouted, lost, outcome-code}
 use Rattle.rules.specs.Answers.{Refusal, answered, refused-with, number-in}
-use Rattle.rules.specs.PairQuestion.{pair-refusals, pair-answer, AcceptedTogether}
-use Rattle.rules.specs.PathQuestion.{PathInputs, no-ending, ending, few-views, bad-views, bad-numbers, path-refusals, path-of, path-answer, trace-after, PathAsked}
+use Rattle.rules.specs.PairQuestion.{pair-answer, AcceptedTogether}
+use Rattle.rules.specs.PathQuestion.{PathInputs, no-ending, ending, few-views, bad-views, bad-numbers, path-refusals, path-of, path-numbers, path-answer, trace-after, PathAsked}
 use Rattle.rules.proofs.Basics.{pick-f}
 use Rattle.rules.proofs.Answers.{asks-routers, front-refuses, number-refuses, number-answers, refused-stays, answered-writes}
 use Rattle.rules.proofs.PairQuestion.{asks-pair}
@@ -113,7 +113,7 @@ module _ (q : PathInputs) where
   pub pair-refused : (number table place : ℕ)
       → (pair-answer (record { old = q .old; new = q .new }) .refusal ≡ record { number = number; table = table; place = place }) × (number ≢ 0)
       → AnswersPath q (Refused number table place) (q .trace)
-  unfolding path-answer pair-answer
+  unfolding path-answer path-numbers pair-answer
   pair-refused number table place (e, n) =
       refused number table place n
       (front-refuses _ _ no-ending _ _ _ (λ z. n (sym (ap (λ (r : Refusal). r .number) e) ∙ z)) ∙ ap (λ (r : Refusal). record { refusal = r; values = no-ending }) e)
@@ -127,11 +127,9 @@ module _ (q : PathInputs) where
 
   module _ (𝓐 : AcceptedTogether (q .old) (q .new)) (n : ℕ) (same : n ≡ says (q .new) .routers)
       (bad : Bool) (b : bad ≡ bad-of n) (number : ℕ) (e : number ≡ number-in (refusals n bad)) where
-    -- all of the question's numbers, of which 8 does not apply
-    abbrev all : List (Line ℕ)
-    all = pair-refusals (says (q .old)) (says (q .new)) ++ refusals (says (q .new) .routers) (bad-of (says (q .new) .routers))
-
-    found : number ≡ number-in all
+    -- it is the first of all the question's numbers, since 8 does not apply
+    found : number ≡ number-in (path-numbers q)
+    unfolding path-numbers
     found =
         e
         ∙ ap (λ t. number-in (refusals n t)) b
@@ -142,12 +140,12 @@ module _ (q : PathInputs) where
     unfolding path-answer
     number-refused h =
         refused number 0 0 h
-        (number-refuses no-ending (ending (path-of q)) (q .old ∷ q .new ∷ []) all (𝓐 .old-accepted, (𝓐 .new-accepted, tt)) number found h)
+        (number-refuses no-ending (ending (path-of q)) (q .old ∷ q .new ∷ []) (path-numbers q) (𝓐 .old-accepted, (𝓐 .new-accepted, tt)) number found h)
 
     module _ (z : number ≡ 0) where
       answers : path-answer q ≡ answered (ending (path-of q))
       unfolding path-answer
-      answers = number-answers no-ending (ending (path-of q)) (q .old ∷ q .new ∷ []) all (𝓐 .old-accepted, (𝓐 .new-accepted, tt)) number found z
+      answers = number-answers no-ending (ending (path-of q)) (q .old ∷ q .new ∷ []) (path-numbers q) (𝓐 .old-accepted, (𝓐 .new-accepted, tt)) number found z
 
       pub asked : PathAsked q
       asked = path-proved q .asked .0 (ap (λ a. a .refusal .number) answers)

@@ -13,12 +13,12 @@ use Rattle.rules.specs.Paths.{listed, follow, path-in, site-of}
 use Rattle.rules.specs.Answers.{table-refusal, answer, afterwards}
 use Rattle.rules.specs.ReadQuestion.{read-answer}
 use Rattle.rules.specs.InterfacesQuestion.{interfaces-refusals, interfaces-answer, interfaces-after}
-use Rattle.rules.specs.PathQuestion.{few-views, bad-views, bad-numbers, path-refusals, path-of, path-answer, trace-after}
+use Rattle.rules.specs.PathQuestion.{few-views, bad-views, bad-numbers, path-refusals, path-of, path-numbers, path-answer, trace-after}
 use Rattle.rules.specs.Listing.{digits, joined-by-commas, cost-and-next, line-of, line, lines-from, lines, header, refusal-line, listing-lines, listing}
 use Rattle.rules.specs.Examples.{reply, BenchExamples, InterfaceExample, ListingExamples}
 
 pub bench-examples : BenchExamples
-unfolding reply read-answer path-answer bad-numbers path-refusals trace-after few-views bad-views path-of table-refusal answer afterwards read judge judge-from step bad-tag known-tag length-allowed contents-fit routers-fit name-fits name-byte link-fits key keep not-above too-many says table-of routers-of those every weight-in tally differing too-different direct best cost has members below set-of chosen leads next-hops entry-by rules-of listed follow path-in site-of
+unfolding reply read-answer path-answer path-numbers bad-numbers path-refusals trace-after few-views bad-views path-of table-refusal answer afterwards read judge judge-from step bad-tag known-tag length-allowed contents-fit routers-fit name-fits name-byte link-fits key keep not-above too-many says table-of routers-of those every weight-in tally differing too-different direct best cost has members below set-of chosen leads next-hops entry-by rules-of listed follow path-in site-of
 bench-examples = refl
 
 pub interface-example : InterfaceExample

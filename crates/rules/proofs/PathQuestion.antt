@@ -3,20 +3,20 @@
 use mathlib.Core.Path.{_≡_, refl}
 use mathlib.Core.Logic.{_↔_}
 use mathlib.Core.Bool.{false}
-use mathlib.Core.List.{List, [], _∷_, _++_}
+use mathlib.Core.List.{List, [], _∷_}
 use Prim.Native.Nat.{ℕ, _-_, _≤_}
 use native.Mathlib.Omega.{arith}
 use lib.Dec.{leb}
 use lib.ListN.{length, take}
 use lib.Seq.{take-all}
 use borrow.Author.Tests.{leb-true, le-leb, not-false}
-use Rattle.rules.specs.Words.{Line, All}
+use Rattle.rules.specs.Words.{All}
 use Rattle.rules.specs.Table.{says}
 use Rattle.rules.specs.Paths.{Choice, listed}
 use Rattle.rules.specs.Demand3.{Together, Demand3OfPath}
 use Rattle.rules.specs.Answers.{Exactly, Answered}
-use Rattle.rules.specs.PairQuestion.{pair-refusals, AcceptedTogether}
-use Rattle.rules.specs.PathQuestion.{PathInputs, no-ending, ending, few-views, bad-views, bad-numbers, path-refusals, packet-of, path-of, path-answer, trace-after, PathNumbers, GoodViews, path-cases, with-views, PathAsked, PathProved}
+use Rattle.rules.specs.PairQuestion.{AcceptedTogether}
+use Rattle.rules.specs.PathQuestion.{PathInputs, no-ending, ending, few-views, bad-views, bad-numbers, path-refusals, packet-of, path-of, path-numbers, path-answer, trace-after, PathNumbers, GoodViews, path-cases, with-views, PathAsked, PathProved}
 use Rattle.rules.proofs.Basics.{every-true, true-every}
 use Rattle.rules.proofs.Acceptance.{obeys}
 use Rattle.rules.proofs.Demand3.{demand3-of-path}
@@ -59,13 +59,10 @@ module _ (q : PathInputs) where
   abbrev n : ℕ
   n = says (q .new) .routers
 
-  abbrev numbers : List (Line ℕ)
-  numbers = pair-refusals (says (q .old)) (says (q .new)) ++ path-refusals n (bad-numbers n (q .source) (q .destination)) (q .views) (length (q .trace))
-
   exactly : Exactly (path-cases q) no-ending (ending (path-of q)) (path-answer q)
-  unfolding path-answer path-refusals
+  unfolding path-answer path-numbers path-refusals
   exactly =
-      tables-first _ (q .old ∷ q .new ∷ []) numbers _ _ _ (
+      tables-first _ (q .old ∷ q .new ∷ []) (path-numbers q) _ _ _ (
         refl,
         asks-pair (says (q .old)) (says (q .new)),
         (refl, asks-numbers n q, (refl, asks-views n (q .views), (refl, asks-≤ (length (q .trace)) n, tt))),
@@ -87,11 +84,11 @@ module _ (q : PathInputs) where
   demand3 𝓐 i choice = demand3-of-path (packet-of q) choice (together 𝓐) (i .source-below) (i .destination-below)
 
 pub path-proved : (q : PathInputs) → PathProved q
-unfolding path-answer path-refusals path-of trace-after
+unfolding path-answer path-numbers path-refusals path-of trace-after
 path-proved q = record {
   exactly = exactly q;
   asked = asked q;
-  refusals = listed-numbers _ (q .old ∷ q .new ∷ []) (numbers q) _ _;
+  refusals = listed-numbers _ (q .old ∷ q .new ∷ []) (path-numbers q) _ _;
   trace-held = outputs-hold _ (path-answer q) _ (path-of q .trace) (q .trace) (
       λ e.
       let h = asked q .0 e in

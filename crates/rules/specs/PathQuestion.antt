@@ -55,12 +55,14 @@ packet-of q = record { old = says (q .old); new = says (q .new); source = q .sou
 unfoldable pub path-of : PathInputs → Path
 path-of q = path (packet-of q) (listed (q .views))
 
--- old table, new table, 8, 9, 11, 10
-unfoldable pub path-answer : PathInputs → Answer Ending
-path-answer q =
+-- behind the tables 8, 9, 11, 10
+unfoldable pub path-numbers : PathInputs → List (Line ℕ)
+path-numbers q =
     let n = says (q .new) .routers in
-    let own = path-refusals n (bad-numbers n (q .source) (q .destination)) (q .views) (length (q .trace)) in
-    answer (on-tables (q .old ∷ q .new ∷ []) (pair-refusals (says (q .old)) (says (q .new)) ++ own)) no-ending (ending (path-of q))
+    pair-refusals (says (q .old)) (says (q .new)) ++ path-refusals n (bad-numbers n (q .source) (q .destination)) (q .views) (length (q .trace))
+
+unfoldable pub path-answer : PathInputs → Answer Ending
+path-answer q = answer (on-tables (q .old ∷ q .new ∷ []) (path-numbers q)) no-ending (ending (path-of q))
 
 unfoldable pub trace-after : PathInputs → List ℕ
 trace-after q = afterwards (path-answer q) (path-of q .trace) (q .trace)
