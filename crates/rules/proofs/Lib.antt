@@ -7,6 +7,9 @@ pub mod Chains
 pub mod Sections
 pub mod TableSections
 pub mod Refusals
+pub mod FirstCases
+pub mod RecordCases
+pub mod ListedCases
 pub mod Reading
 pub mod Acceptance
 pub mod Lengths

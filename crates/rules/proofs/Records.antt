@@ -59,7 +59,7 @@ tag-order kept tag e =
       not-below = ltb-false tag (kept .tag) (p .1);
     }
 
-order-tag : (kept : Kept) (tag : ℕ) → InOrder kept tag → bad-tag kept tag ≡ false
+pub order-tag : (kept : Kept) (tag : ℕ) → InOrder kept tag → bad-tag kept tag ≡ false
 unfolding bad-tag
 order-tag kept tag o =
     elim (ℕ-discrete (kept .tag) 0) [

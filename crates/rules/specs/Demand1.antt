@@ -8,6 +8,7 @@ use Prim.Native.Nat.{ℕ, _≤_}
 use lib.ListN.{length, take}
 use Rattle.rules.specs.Layout.{Bytes, Name, Obeys, Table, longest-table, written}
 use Rattle.rules.specs.Table.{number-of, place-of, read, refused, says}
+use Rattle.rules.specs.ListedCases.{EndsAt, RefusedAt}
 use Rattle.rules.specs.Links.{weight}
 use Rattle.rules.specs.Pairs.{differing, too-different}
 use Rattle.rules.specs.Listing.{listing}
@@ -34,7 +35,19 @@ abbrev pub ContentsSettle : Type 0
 ContentsSettle =
     (bytes bytes′ : List ℕ) (t t′ : Table) → Bytes bytes → Bytes bytes′ → Accepted bytes t → Accepted bytes′ t′ → (bytes ≡ bytes′) ↔ (t ≡ t′)
 
--- ---- refusals (proofs/Refusals)
+-- ---- refusals (proofs/ListedCases, proofs/Refusals)
+
+-- a table is refused exactly in the listed cases,
+abbrev pub InListedCases : Type 0
+InListedCases = (bytes : List ℕ) (number place : ℕ) → (read bytes ≡ refused number place) ↔ RefusedAt bytes number place
+
+-- and accepted exactly where every record is good up to an end record behind which nothing stands
+abbrev pub InNoOthers : Type 0
+InNoOthers = (bytes : List ℕ) → IsAccepted bytes ↔ EndsAt bytes (length bytes)
+
+-- the place is one of the table or, where nothing remains, its length
+abbrev pub PlacesWithin : Type 0
+PlacesWithin = (bytes : List ℕ) (number place : ℕ) → read bytes ≡ refused number place → place ≤ length bytes
 
 -- a table is refused by one of 1 to 7
 abbrev pub TableRefusals : Type 0

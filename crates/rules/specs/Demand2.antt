@@ -1,6 +1,5 @@
--- What demand 2 says, as statements: costs, sets, interface tables and printed numbers are those of the rules, and entries forward to members. The
--- four lines of an entry are the definition `Entries.entry-by`; of paths `Demand3` speaks, of acceptance `Demand1`. Each statement is proved in the
--- file of `proofs/` that its heading names.
+-- What demand 2 says, as statements: costs, sets, entries, interface tables and printed numbers are those of the rules. Of paths `Demand3` speaks, of
+-- acceptance `Demand1`. Each statement is proved in the file of `proofs/` that its heading names.
 use mathlib.Core.Path.{_≡_}
 use mathlib.Core.Logic.{_≢_, _⊎_, _↔_}
 use mathlib.Core.Bool.{true}
@@ -14,7 +13,7 @@ use Rattle.rules.specs.Links.{weight}
 use Rattle.rules.specs.Routes.{Route}
 use Rattle.rules.specs.Costs.{LeastCost, cost, no-cost}
 use Rattle.rules.specs.NextHops.{chosen, has, next-hops, size}
-use Rattle.rules.specs.Entries.{code, cell, entry, forward, interfaces}
+use Rattle.rules.specs.Entries.{code, cell, deliver, discard, entry, forward, interfaces, no-route}
 use Rattle.rules.specs.Listing.{decimal}
 
 -- ---- least cost (proofs/LeastCost)
@@ -50,10 +49,13 @@ CertifiedIsCost = (t : Table) → Obeys t → (d B : ℕ) (f : ℕ → ℕ) → 
 
 -- ---- sets (proofs/Sets)
 
--- bit k is set exactly for the neighbours k with weight(i, k) + cost(k, d) = cost(i, d)
+-- k is a neighbour of i with weight(i, k) + cost(k, d) = cost(i, d)
+abbrev pub LeadsOn : Table → ℕ → ℕ → ℕ → Type 0
+LeadsOn t i d k = (0 < weight t i k) × (weight t i k + cost t k d ≡ cost t i d)
+
+-- bit k is set exactly for these neighbours
 abbrev pub SetsHaveNeighbours : Type 0
-SetsHaveNeighbours =
-    (t : Table) → Obeys t → (i d k : ℕ) → (has (next-hops t i d) k ≡ true) ↔ ((0 < weight t i k) × (weight t i k + cost t k d ≡ cost t i d))
+SetsHaveNeighbours = (t : Table) → Obeys t → (i d k : ℕ) → (has (next-hops t i d) k ≡ true) ↔ LeadsOn t i d k
 
 -- empty exactly for i = d or no route
 abbrev pub EmptySets : Type 0
@@ -75,6 +77,21 @@ abbrev pub ChosenByBits : Type 0
 ChosenByBits = (set : ℕ) → set < 2 ^ 64 → ByBits set
 
 -- ---- entries (proofs/Entries)
+
+-- the lowest of the numbers of which P holds
+abbrev pub Lowest : (ℕ → Type 0) → ℕ → Type 0
+Lowest P k = P k × ((m : ℕ) → P m → k ≤ m)
+
+-- The four lines, over costs and neighbours: deliver exactly where i = d; else no route exactly where the cost is 4294967295; else discard exactly
+-- where j is a neighbour that leads on; else forward to the lowest neighbour that does. j need not be linked to i.
+pub record FourLines (t : Table) (i j d : ℕ) : Type 0 where
+  pub delivers : (entry t i j d ≡ deliver) ↔ (i ≡ d)
+  pub has-none : i ≢ d → (entry t i j d ≡ no-route) ↔ (cost t i d ≡ no-cost)
+  pub discards : i ≢ d → cost t i d ≢ no-cost → (entry t i j d ≡ discard) ↔ LeadsOn t i d j
+  pub forwards : i ≢ d → cost t i d ≢ no-cost → ¬ LeadsOn t i d j → (k : ℕ) → (entry t i j d ≡ forward k) ↔ Lowest (LeadsOn t i d) k
+
+abbrev pub EntriesByLines : Type 0
+EntriesByLines = (t : Table) → Obeys t → (i j d : ℕ) → FourLines t i j d
 
 -- a router forwards to a router, a member of its set, so that the codes 0 to 63 and 128 to 131 tell all cases apart
 abbrev pub EntriesForward : Type 0

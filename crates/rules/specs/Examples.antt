@@ -1,12 +1,14 @@
--- The bench examples of document 01, on bytes: P1 to P12 as one list of questions and one of answers, an interface table, and listings.
+-- The bench examples of document 01, on bytes: P1 to P12 as one list of questions with their replies, an entry, an interface table, and listings.
 use mathlib.Core.Path.{_≡_}
 use mathlib.Core.List.{List, [], _∷_, _++_, map}
 use Prim.Native.Nat.{ℕ}
 use lib.ListN.{replicate}
-use Rattle.rules.specs.Words.{_=?_, pick, text}
+use Rattle.rules.specs.Words.{_=?_, pick, All, text}
+use Rattle.rules.specs.Answers.{Refusal, answered}
 use Rattle.rules.specs.ReadQuestion.{read-answer}
+use Rattle.rules.specs.EntryQuestion.{entry-answer}
 use Rattle.rules.specs.InterfacesQuestion.{interfaces-after}
-use Rattle.rules.specs.PathQuestion.{PathInputs, path-answer, trace-after}
+use Rattle.rules.specs.PathQuestion.{PathInputs, GoodViews, path-answer, trace-after}
 use Rattle.rules.specs.Listing.{listing}
 
 -- ---- tables
@@ -48,11 +50,14 @@ pub data Question : Type 0 where
   reads : List ℕ → Question
   follows : PathInputs → Question
 
--- accepted with N and the number of links; refused with number and place; ended with the outcome's code, router, hops, and the bytes of the trace
+-- accepted with N and the number of links; refused with number, table and place; ended with the outcome's code, router, hops, and the bytes of the trace
 pub data Reply : Type 0 where
   accepts : ℕ → ℕ → Reply
-  refuses : ℕ → ℕ → Reply
+  refuses : ℕ → ℕ → ℕ → Reply
   ends : ℕ → ℕ → ℕ → List ℕ → Reply
+
+abbrev refused-by : Refusal → Reply
+refused-by r = refuses (r .number) (r .table) (r .place)
 
 -- eight bytes of trace are lent
 abbrev lent : List ℕ
@@ -61,11 +66,11 @@ lent = replicate 8 0xEE
 unfoldable pub reply : Question → Reply
 reply (reads table) =
     let a = read-answer table in
-    pick (a .refusal .number =? 0) (accepts (a .values .routers) (a .values .links)) (refuses (a .refusal .number) (a .refusal .place))
+    pick (a .refusal .number =? 0) (accepts (a .values .routers) (a .values .links)) (refused-by (a .refusal))
 reply (follows q) =
     let a = path-answer q in
     pick (a .refusal .number =? 0) (ends (a .values .outcome) (a .values .router) (a .values .hops) (trace-after q))
-    (refuses (a .refusal .number) (a .refusal .place))
+    (refused-by (a .refusal))
 
 -- from s to d, by these views
 abbrev follow : List ℕ → List ℕ → ℕ → ℕ → List ℕ → Question
@@ -82,16 +87,15 @@ o = 0
 abbrev n : ℕ
 n = 1
 
--- In the order of the document; P11 stands four times, once for each list of two bytes. 128 delivered, 129 discarded, 130 no route, 132 lost; later bytes of the
--- trace stay.
-abbrev pub cases : List (Question × Reply)
-cases =
+-- In the order of the document; P11 has any views. 128 delivered, 129 discarded, 130 no route, 132 lost; later bytes of the trace stay.
+abbrev pub cases : List ℕ → List (Question × Reply)
+cases any =
     -- P1 to P5
-    reads [] gets refuses 1 0
+    reads [] gets refuses 1 0 0
     ∷ reads (0x01 ∷ 0x00 ∷ 0x01 ∷ 0x01 ∷ 0x7F ∷ 0x00 ∷ 0x00 ∷ []) gets accepts 1 0
     ∷ reads (0x01 ∷ 0x00 ∷ 0x01 ∷ 0x40 ∷ 0x7F ∷ 0x00 ∷ 0x00 ∷ []) gets accepts 64 0
-    ∷ reads (0x01 ∷ 0x00 ∷ 0x01 ∷ 0x41 ∷ 0x7F ∷ 0x00 ∷ 0x00 ∷ []) gets refuses 4 0
-    ∷ reads (0x01 ∷ 0x00 ∷ 0x01 ∷ 0x02 ∷ 0x04 ∷ 0x00 ∷ 0x04 ∷ 0x00 ∷ 0x01 ∷ 0x00 ∷ 0x00 ∷ 0x7F ∷ 0x00 ∷ 0x00 ∷ []) gets refuses 4 4
+    ∷ reads (0x01 ∷ 0x00 ∷ 0x01 ∷ 0x41 ∷ 0x7F ∷ 0x00 ∷ 0x00 ∷ []) gets refuses 4 0 0
+    ∷ reads (0x01 ∷ 0x00 ∷ 0x01 ∷ 0x02 ∷ 0x04 ∷ 0x00 ∷ 0x04 ∷ 0x00 ∷ 0x01 ∷ 0x00 ∷ 0x00 ∷ 0x7F ∷ 0x00 ∷ 0x00 ∷ []) gets refuses 4 0 4
     -- P6 to P8
     ∷ follow triangle-old triangle-new 1 2 (n ∷ o ∷ []) gets ends 129 0 1 (1 ∷ 0 ∷ replicate 6 0xEE)
     ∷ follow triangle-old triangle-new 1 2 (n ∷ n ∷ []) gets ends 128 2 2 (1 ∷ 0 ∷ 2 ∷ replicate 5 0xEE)
@@ -100,16 +104,19 @@ cases =
     ∷ follow ring-old ring-new 0 6 (o ∷ o ∷ o ∷ n ∷ n ∷ n ∷ []) gets ends 129 3 3 (0 ∷ 1 ∷ 4 ∷ 3 ∷ replicate 4 0xEE)
     ∷ follow ring-old ring-new 3 6 (n ∷ n ∷ n ∷ n ∷ n ∷ n ∷ []) gets ends 128 6 4 (3 ∷ 2 ∷ 5 ∷ 0 ∷ 6 ∷ replicate 3 0xEE)
     -- P11
-    ∷ follow triangle-old triangle-new 2 2 (o ∷ o ∷ []) gets ends 128 2 0 (2 ∷ replicate 7 0xEE)
-    ∷ follow triangle-old triangle-new 2 2 (o ∷ n ∷ []) gets ends 128 2 0 (2 ∷ replicate 7 0xEE)
-    ∷ follow triangle-old triangle-new 2 2 (n ∷ o ∷ []) gets ends 128 2 0 (2 ∷ replicate 7 0xEE)
-    ∷ follow triangle-old triangle-new 2 2 (n ∷ n ∷ []) gets ends 128 2 0 (2 ∷ replicate 7 0xEE)
+    ∷ follow triangle-old triangle-new 2 2 any gets ends 128 2 0 (2 ∷ replicate 7 0xEE)
     -- P12
     ∷ follow pair-linked pair-apart 0 1 (n ∷ []) gets ends 130 0 0 (0 ∷ replicate 7 0xEE)
     ∷ []
 
+-- each question gets its reply, whatever views that are not refused P11 has
 abbrev pub BenchExamples : Type 0
-BenchExamples = map (λ c. reply (c .0)) cases ≡ map (λ c. c .1) cases
+BenchExamples = (any : List ℕ) → GoodViews 3 any → All (λ c. reply (c .0) ≡ c .1) (cases any)
+
+-- ---- an entry whose previous hop is not linked: what comes from router 2 for router 1, router 0 forwards to router 1
+
+abbrev pub EntryExample : Type 0
+EntryExample = entry-answer (record { table = routers 3 ++ link 0 1 1 ++ table-end; router = 0; previous = 2; destination = 1 }) ≡ answered 1
 
 -- ---- the old triangle's interface table of router 0, in thirteen lent bytes
 

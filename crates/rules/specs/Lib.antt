@@ -1,6 +1,7 @@
 pub mod Words
 pub mod Layout
 pub mod Table
+pub mod ListedCases
 pub mod Links
 pub mod Pairs
 pub mod Routes

@@ -1,6 +1,6 @@
 -- The words that the other files are written in: tests, the first line that applies, lists of numbers, texts.
 -- Everywhere: what is marked `abbrev` is a short name for what it says, what is marked `unfoldable` a definition that proofs open by name.
-use mathlib.Core.Logic.{_≢_}
+use mathlib.Core.Logic.{_≢_, _⊎_}
 use mathlib.Core.Bool.{Bool, true, false, _&&_}
 use mathlib.Core.List.{List, [], _∷_, _++_}
 use Prim.Native.Nat.{ℕ, zero, suc, _+_, _<_}
@@ -64,6 +64,11 @@ module _ {A : Type 0} where
   abbrev pub All : (A → Type 0) → List A → Type 0
   All P [] = Unit {0}
   All P (x ∷ xs) = P x × All P xs
+
+  -- P holds of some element
+  abbrev pub Some : (A → Type 0) → List A → Type 0
+  Some P [] = ⊥
+  Some P (x ∷ xs) = P x ⊎ Some P xs
 
 -- the numbers 0 to n − 1
 unfoldable pub below : ℕ → List ℕ
