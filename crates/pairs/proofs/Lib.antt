@@ -2,3 +2,5 @@ pub mod Merge
 pub mod Fronts
 pub mod Answers
 pub mod Settled
+pub mod NoneDiffer
+pub mod Number8

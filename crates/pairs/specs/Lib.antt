@@ -1,2 +1,3 @@
 pub mod Fronts
 pub mod Pairings
+pub mod Number8
