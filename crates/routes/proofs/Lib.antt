@@ -2,3 +2,4 @@ pub mod Answers
 pub mod HandedOver
 pub mod Hops
 pub mod Settled
+pub mod LeastCosts
