@@ -5,3 +5,4 @@ pub mod Places
 pub mod Asked
 pub mod OnTable
 pub mod Settled
+pub mod Accepting

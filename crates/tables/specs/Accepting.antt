@@ -1,0 +1,21 @@
+-- Acceptance of what the reading question's function answers: exactly the bytes of a table that obeys the layout are accepted.
+-- The statement is proved in proofs/Accepting.
+use mathlib.Core.Path.{_≡_}
+use mathlib.Core.Logic.{_≢_}
+use mathlib.Core.List.{List}
+use Prim.Native.Nat.{ℕ}
+use lib.ListN.{length}
+use Rattle.rules.specs.Layout.{Table, Obeys, Bytes, written}
+use Rattle.tables.specs.declared.Reading.{Reading}
+use Rattle.tables.specs.declared.Reading.the-variants.{Accepted, Refused}
+use Rattle.tables.specs.Readings.{Reads}
+
+-- accepted: a table that obeys the layout, as written, and its own numbers of routers and links; refused: no such table is written so
+abbrev pub OfReading : List ℕ → Reading → Type 0
+OfReading bytes (Accepted t) =
+    (table : Table) × Obeys table × (bytes ≡ written table) × (t .routers ≡ table .routers) × (t .links ≡ length (table .links))
+OfReading bytes (Refused number place) = (table : Table) → Obeys table → bytes ≢ written table
+
+-- whatever bytes arrive
+abbrev pub AcceptanceOfTheCode : Type 0
+AcceptanceOfTheCode = (bytes : List ℕ) (r : Reading) → Bytes bytes → Reads bytes r → OfReading bytes r
