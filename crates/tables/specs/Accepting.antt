@@ -6,14 +6,21 @@ use mathlib.Core.List.{List}
 use Prim.Native.Nat.{ℕ}
 use lib.ListN.{length}
 use Rattle.rules.specs.Layout.{Table, Obeys, Bytes, written}
+use Rattle.rules.specs.Table.{says}
 use Rattle.tables.specs.declared.Reading.{Reading}
 use Rattle.tables.specs.declared.Reading.the-variants.{Accepted, Refused}
 use Rattle.tables.specs.Readings.{Reads}
 
--- accepted: a table that obeys the layout, as written, and its own numbers of routers and links; refused: no such table is written so
+-- Accepted: the bytes are a table that obeys the layout, as it is written; they say that table, and the outline has its numbers of routers and links.
+-- Refused: they are no such table.
 abbrev pub OfReading : List ℕ → Reading → Type 0
 OfReading bytes (Accepted t) =
-    (table : Table) × Obeys table × (bytes ≡ written table) × (t .routers ≡ table .routers) × (t .links ≡ length (table .links))
+    (table : Table)
+    × Obeys table
+    × (bytes ≡ written table)
+    × (says bytes ≡ table)
+    × (t .routers ≡ table .routers)
+    × (t .links ≡ length (table .links))
 OfReading bytes (Refused number place) = (table : Table) → Obeys table → bytes ≢ written table
 
 -- whatever bytes arrive
