@@ -2,5 +2,4 @@ pub mod Merge
 pub mod Fronts
 pub mod Answers
 pub mod Settled
-pub mod NoneDiffer
 pub mod Number8

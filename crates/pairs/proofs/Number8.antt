@@ -12,12 +12,11 @@ use Rattle.rules.specs.Demand1.{IsAccepted}
 use Rattle.rules.specs.Answers.{Refusal, Answer, Answered, Refused, Exactly}
 use Rattle.rules.specs.PairQuestion.{PairInputs, Pairing, no-pairing, pairing, pair-answer, pair-cases, AcceptedTogether}
 use Rattle.rules.proofs.Acceptance.{obeys}
-use Rattle.rules.proofs.OneChange.{differs-exactly}
+use Rattle.rules.proofs.OneChange.{differs-exactly, none-differs}
 use Rattle.rules.proofs.PairQuestion.{pair-proved}
 use Rattle.pairs.specs.declared.Pairing.the-variants as here
 use Rattle.pairs.specs.Pairings.{pairing-numbers}
 use Rattle.pairs.specs.Number8.{GoTogether, FirstRefuses, by-old, by-new, by-8, Number8OfTheCode}
-use Rattle.pairs.proofs.NoneDiffer.{none-differ}
 
 module _ (q : PairInputs) where
   -- what 8 asks for, of two accepted tables
@@ -51,7 +50,7 @@ number8-of-the-code q (here.Accepted differ old new) (p, own) = (
   t .old-accepted,
   t .new-accepted,
   goes-together q (t .old-accepted) (t .new-accepted) .0 (t .same-routers, t .one-link),
-  record { at-most-one = omega (arith, d, t .one-link); none = rw d (none-differ (says (q .old)) (says (q .new)) (obeys (q .old) (t .old-accepted)) (obeys (q .new) (t .new-accepted))) },
+  record { at-most-one = omega (arith, d, t .one-link); none = rw d (none-differs (says (q .old)) (says (q .new)) (obeys (q .old) (t .old-accepted)) (obeys (q .new) (t .new-accepted))) },
 )
   where
     a : Answered (pair-answer q)

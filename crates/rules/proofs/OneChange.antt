@@ -5,7 +5,7 @@ use mathlib.Core.Logic.{_≢_, _⊎_, inl, inr}
 use mathlib.Core.Bool.{Bool, true, false, not}
 use mathlib.Core.List.{List, [], _∷_, List·Memᴰ, List·Memᴰ·head, List·Memᴰ·tail, Memᴰ·map, map}
 use Prim.Native.Nat.{ℕ, _+_, _≤_, _<_}
-use native.Mathlib.Decide.{decLt}
+use native.Mathlib.Decide.{ℕ-discrete, decLt}
 use native.Mathlib.Omega.{arith}
 use lib.Dec.{eqb}
 use borrow.Author.Tests.{eqb-true, eqb-false, not-true, eq-eqb, ne-eqb}
@@ -13,7 +13,7 @@ use Rattle.rules.specs.Words.{pick, tally, Rising}
 use Rattle.rules.specs.Layout.{Link, Table, LinkFits, pair-number, Obeys}
 use Rattle.rules.specs.Links.{joins, weight-in, weight}
 use Rattle.rules.specs.Pairs.{differing}
-use Rattle.rules.specs.Demand1.{SameEnds, OneChange, DiffersExactly}
+use Rattle.rules.specs.Demand1.{SameEnds, OneChange, DiffersExactly, NoneDiffers}
 use Rattle.rules.specs.Demand3.{Together}
 use Rattle.rules.proofs.Basics.{All-listed}
 use Rattle.rules.proofs.Weights.{ends-of, weight-both-ways, own}
@@ -177,6 +177,28 @@ module _ (old new : Table) (o : Obeys old) where
   unfolding added
   added-differs n l m e = omega (arith, eqb-true (weight old (l .a) (l .b)) 0 e, own-weight n l m, fits n l m)
 
+  -- no link differs: every two routers have the same weight
+  same-of-none : differing old new ≡ 0 → (i k : ℕ) → weight old i k ≡ weight new i k
+  unfolding differing changed added
+  same-of-none none i k = go (omega arith) (ℕ-discrete (weight old i k) (weight new i k))
+    where
+      go : tally changed (old .links) + tally added (new .links) ≡ 0 → Dec (weight old i k ≡ weight new i k) → weight old i k ≡ weight new i k
+      go h (yes e) = e
+      go h (no e) = elim (counted i k e) [
+        | inl (g, s) ↦ absurd (omega (arith, some changed (old .links) (g .which) (g .listed) s))
+        | inr (g, s) ↦ absurd (omega (arith, some added (new .links) (g .which) (g .listed) s))
+      ]
+
+  none-of-same : Obeys new → ((i k : ℕ) → weight old i k ≡ weight new i k) → differing old new ≡ 0
+  unfolding differing changed added
+  none-of-same n same = omega (arith, none changed old changed-differs, none added new (added-differs n))
+    where
+      none : (p : Link → Bool) (t : Table) → ((l : Link) → List·Memᴰ l (t .links) → p l ≡ true → Differs l) → tally p (t .links) ≡ 0
+      none p t differs = elim (decLt 0 (tally p (t .links))) [
+        | yes h ↦ let (l, m, e) = passing p (t .links) h in absurd (differs l m e (same (l .a) (l .b)))
+        | no h ↦ omega arith
+      ]
+
   module _ (n : Obeys new) (once : OneChange (weight old) (weight new)) where
     -- of one table's links, one is counted at most
     one-counted : (p : Link → Bool) (t : Table) → Obeys t → ((l : Link) → List·Memᴰ l (t .links) → p l ≡ true → Differs l) → tally p (t .links) ≤ 1
@@ -211,3 +233,6 @@ one-change {old} {new} 𝓣 = one-of-few old new (𝓣 .old-obeys) (𝓣 .one-li
 
 pub differs-exactly : DiffersExactly
 differs-exactly old new o n = (one-of-few old new o, few-of-one old new o n)
+
+pub none-differs : NoneDiffers
+none-differs old new o n = (same-of-none old new o, none-of-same old new o n)

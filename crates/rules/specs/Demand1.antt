@@ -67,6 +67,10 @@ OneChange w w′ = (i k a b : ℕ) → w i k ≢ w′ i k → w a b ≢ w′ a b
 abbrev pub DiffersExactly : Type 0
 DiffersExactly = (old new : Table) → Obeys old → Obeys new → (differing old new ≤ 1) ↔ OneChange (weight old) (weight new)
 
+-- no link differs exactly if every two routers have the same weight in both tables
+abbrev pub NoneDiffers : Type 0
+NoneDiffers = (old new : Table) → Obeys old → Obeys new → (differing old new ≡ 0) ↔ ((i k : ℕ) → weight old i k ≡ weight new i k)
+
 -- names never count as a difference between tables
 abbrev pub NamesNeverCount : Type 0
 NamesNeverCount =

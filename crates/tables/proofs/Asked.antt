@@ -7,7 +7,7 @@ use Prim.Native.Nat.{ℕ, _+_, _-_, _*_, _≤_, _<_}
 use native.Mathlib.Omega.{arith}
 use lib.ListN.{length}
 use borrow.Author.Tests.{lt-ltb, le-ltb}
-use Rattle.rules.specs.Layout.{Table}
+use Rattle.rules.specs.Layout.{Table, Bytes}
 use Rattle.rules.specs.Table.{Record, Judged, accepted, refused, judge, nothing-behind, read, number-of, place-of, records-of, table-of, says}
 use Rattle.rules.specs.Demand1.{IsAccepted}
 use Rattle.rules.specs.Answers.{answered, refused-with}
@@ -50,30 +50,31 @@ module _ (bytes : List ℕ) where
   told-so r p = judge-settled bytes (judged-of (judge bytes)) r judged-so p
 
   -- what is read decides
-  refused-reads : (number place : ℕ) → read bytes ≡ refused number place → Reads bytes (Refused number place)
+  refused-reads : Bytes bytes → (number place : ℕ) → read bytes ≡ refused number place → Reads bytes (Refused number place)
   unfolding reading-numbers read-answer
-  refused-reads number place e = (sym (table-bad no-reading values 0 bytes [] number place (ap number-of e) (ap place-of e) n), n)
+  refused-reads b number place e = (sym (table-bad no-reading values 0 bytes [] number place (ap number-of e) (ap place-of e) n), n, b)
     where
       n : number ≢ 0
       n z = omega (arith, z, table-refusals bytes number place e)
 
-  accepted-reads : (rs : List Record) (end : ℕ) → read bytes ≡ accepted rs end
+  accepted-reads : Bytes bytes → (rs : List Record) (end : ℕ) → read bytes ≡ accepted rs end
       → Reads bytes (Accepted (record { routers = table-of rs .routers; links = length (table-of rs .links); start = links-place rs }))
   unfolding reading-numbers read-answer says links-start
-  accepted-reads rs end e =
+  accepted-reads b rs end e =
       let t = ap (λ j. table-of (records-of j)) e in (
         sym (number-answers no-reading values (bytes ∷ []) [] (ap number-of e, tt) 0 refl refl
             ∙ ap (λ (t : Table). answered (reading t)) t),
         sym (ap₂ (λ (t : Table) (start : ℕ). record { routers = t .routers; links = length (t .links); start = start }) t (ap (λ j. links-place (records-of j)) e)),
+        b,
       )
 
   -- judging refuses, and so does reading
-  pub refused-told : (number place : ℕ) → judged-of (judge bytes) ≡ here.Refused number place → Reads bytes (Refused number place)
+  pub refused-told : Bytes bytes → (number place : ℕ) → judged-of (judge bytes) ≡ here.Refused number place → Reads bytes (Refused number place)
   unfolding judged-of read
-  refused-told number place = go (judge bytes) refl
+  refused-told b number place = go (judge bytes) refl
     where
       go : (j : Judged) → judge bytes ≡ j → judged-of j ≡ here.Refused number place → Reads bytes (Refused number place)
-      go (refused n p) e q = refused-reads number place (ap (nothing-behind (length bytes)) e ∙ same)
+      go (refused n p) e q = refused-reads b number place (ap (nothing-behind (length bytes)) e ∙ same)
         where
           same : refused n p ≡ refused number place
           same = let a : n ≡ number = cc in let b : p ≡ place = cc in rw (a, b)
@@ -85,19 +86,19 @@ module _ (bytes : List ℕ) where
     pub behind : end < length bytes → Reads bytes (Refused 7 end)
     pub whole : length bytes ≤ end → Reads bytes (Accepted (record { routers = routers; links = links; start = end - 3 - links * 7 }))
 
-  pub accepted-told : (routers links end : ℕ) → judged-of (judge bytes) ≡ here.Accepted routers links end → Ended routers links end
+  pub accepted-told : Bytes bytes → (routers links end : ℕ) → judged-of (judge bytes) ≡ here.Accepted routers links end → Ended routers links end
   unfolding judged-of read
-  accepted-told routers links end = go (judge bytes) refl
+  accepted-told b routers links end = go (judge bytes) refl
     where
       go : (j : Judged) → judge bytes ≡ j → judged-of j ≡ here.Accepted routers links end → Ended routers links end
       go (refused n p) e q = let z : _≡_ {A = ℕ} 0 1 = cc in absurd (omega arith)
       go (accepted rs at) e q = record {
         room = omega (arith, ends, c, l);
-        behind = λ h. refused-reads 7 end (ap (nothing-behind (length bytes)) e ∙ pick-t _ _ _ (lt-ltb at (length bytes) (omega (arith, c))) ∙ ap (λ n. refused 7 n) c);
+        behind = λ h. refused-reads b 7 end (ap (nothing-behind (length bytes)) e ∙ pick-t _ _ _ (lt-ltb at (length bytes) (omega (arith, c))) ∙ ap (λ n. refused 7 n) c);
         whole = λ h.
             subst (Reads bytes)
             (same a l (omega (arith, ends, c, l)))
-            (accepted-reads rs at (ap (nothing-behind (length bytes)) e ∙ pick-f _ _ _ (le-ltb at (length bytes) (omega (arith, c)))));
+            (accepted-reads b rs at (ap (nothing-behind (length bytes)) e ∙ pick-f _ _ _ (le-ltb at (length bytes) (omega (arith, c)))));
       }
         where
           a : table-of rs .routers ≡ routers

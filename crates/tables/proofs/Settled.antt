@@ -64,4 +64,4 @@ module _ (bytes : List ℕ) where
   reading-again (Refused number place) own = refused-again _ _ _ own
 
   pub read-settled : Settles (Reads bytes)
-  read-settled = numbers-settle _ _ reading-numbers (Outlined bytes) reading-from reading-again _
+  read-settled x y p q = numbers-settle _ _ reading-numbers (Outlined bytes) reading-from reading-again _ x y (p .0, p .1) (q .0, q .1)

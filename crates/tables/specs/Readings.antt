@@ -4,7 +4,7 @@ use mathlib.Core.List.{List, [], _∷_}
 use Prim.Native.Nat.{ℕ}
 use lib.ListN.{length}
 use Rattle.rules.specs.Words.{_<?_, pick}
-use Rattle.rules.specs.Layout.{tag-link}
+use Rattle.rules.specs.Layout.{Bytes, tag-link}
 use Rattle.rules.specs.Table.{Record, Judged, accepted, refused, judge, read, records-of, table-of, says}
 use Rattle.rules.specs.Answers.{Answer, answered, refused-with, IsNumber}
 use Rattle.rules.specs.ReadQuestion.{Reading, no-reading, read-answer}
@@ -76,6 +76,6 @@ abbrev pub Outlined : List ℕ → ReadingHere → Type 0
 Outlined bytes (Accepted t) = t ≡ outline-of bytes
 Outlined bytes (Refused number place) = IsNumber number
 
--- r is what the reading question answers to these bytes
+-- r is what the reading question answers to these bytes, and they are bytes
 abbrev pub Reads : List ℕ → ReadingHere → Type 0
-Reads bytes r = (reading-numbers r ≡ read-answer bytes) × Outlined bytes r
+Reads bytes r = (reading-numbers r ≡ read-answer bytes) × Outlined bytes r × Bytes bytes
