@@ -113,5 +113,6 @@ demand3-of-path packet choice 𝓣 b h =
       general = 𝓓;
       by-entries = λ v i j. ap (λ r. entry-by r i j d) (own .1 v);
       over-new-links = EachHop-map _ _ (λ i k. carries-new packet i k .0) (path packet choice .trace) (𝓓 .loopless .over-links);
+      real-links = carries-new packet;
       all-new = 𝓓 .all-new (rules-willing 𝓣 d (site-of packet) own (λ i k. carries-new packet i k .1));
     }

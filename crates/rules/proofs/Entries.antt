@@ -1,18 +1,18 @@
 -- The four lines of an entry: what each gives, and what held where it was given.
 -- Assumes nothing.
-use mathlib.Core.Path.{_≡_, refl, sym, _∙_, ap}
+use mathlib.Core.Path.{_≡_, refl, sym, _∙_, ap, subst}
 use mathlib.Core.Logic.{_≢_}
-use mathlib.Core.Bool.{Bool, true, false}
+use mathlib.Core.Bool.{Bool, true, false, false≢true}
 use Prim.Native.Nat.{ℕ, _<_}
 use native.Mathlib.Decide.{ℕ-discrete}
 use native.Mathlib.Omega.{arith}
 use lib.Dec.{ltb}
-use borrow.Author.Tests.{ltb-true, ltb-false, lt-ltb, le-ltb, eq-eqb, ne-eqb}
+use borrow.Author.Tests.{ltb-true, ltb-false, eq-eqb, ne-eqb}
 use Rattle.rules.specs.Layout.{Table, Obeys}
 use Rattle.rules.specs.Costs.{no-cost, cost}
 use Rattle.rules.specs.NextHops.{has, chosen, next-hops}
-use Rattle.rules.specs.Entries.{Entry, deliver, discard, no-route, forward, Rules, entry-by, rules-of, entry}
-use Rattle.rules.specs.Demand2.{LeadsOn, Lowest, EntriesForward, EntriesByLines}
+use Rattle.rules.specs.Entries.{Entry, deliver, discard, no-route, forward, Rules, entry-by, rules-of, entry, code}
+use Rattle.rules.specs.Demand2.{LeadsOn, Lowest, FourLines, EntriesForward, EntriesByLines}
 use Rattle.rules.proofs.Weights.{net}
 use Rattle.rules.proofs.LeastCost.{cost-laws}
 use Rattle.rules.proofs.Sets.{sets-fit, has-next, chosen-member, sets-have-neighbours}
@@ -100,37 +100,44 @@ chosen-lowest t o i d a f = (
 
 pub entries-by-lines : EntriesByLines
 unfolding entry rules-of
-entries-by-lines t o i j d = record {
-  delivers = (delivers-home rules i j d, home-delivers rules i j d);
-  has-none = λ a. (λ e. unrouted (entered rules i j d e), λ c. no-route-tells rules i j d a (le-ltb (cost t i d) no-cost (omega arith)));
-  discards = λ a r. (λ e. dropped (entered rules i j d e), λ l. discards-drop rules i j d a (routed r) (sets-have-neighbours t o i d j .1 l));
-  forwards = λ a r n k. (λ e. sent (entered rules i j d e), λ l. goes a r n l);
-}
+entries-by-lines t o i j d = go (enters rules i j d)
   where
     rules : Rules
     rules = rules-of t d
 
-    real : cost t i d ≢ no-cost → cost t i d < no-cost
-    real r = omega (arith, cost-laws t o d .top i)
+    real : ltb (cost t i d) no-cost ≡ true → cost t i d ≢ no-cost
+    real r e = omega (arith, ltb-true (cost t i d) no-cost r)
 
-    routed : cost t i d ≢ no-cost → ltb (cost t i d) no-cost ≡ true
-    routed r = lt-ltb (cost t i d) no-cost (real r)
-
-    unrouted : Enters rules i j d no-route → cost t i d ≡ no-cost
-    unrouted (cut-off a r) = omega (arith, ltb-false (cost t i d) no-cost r, cost-laws t o d .top i)
-
-    dropped : Enters rules i j d discard → LeadsOn t i d j
-    dropped (drops a r x) = sets-have-neighbours t o i d j .0 x
-
-    sent : {k : ℕ} → Enters rules i j d (forward k) → Lowest (LeadsOn t i d) k
-    sent (sends a r x) = chosen-lowest t o i d a (ltb-true (cost t i d) no-cost r)
-
-    kept : ¬ LeadsOn t i d j → (s : Bool) → has (next-hops t i d) j ≡ s → s ≡ false
-    kept n true e = absurd (n (sets-have-neighbours t o i d j .0 e))
-    kept n false e = refl
-
-    goes : {k : ℕ} → i ≢ d → cost t i d ≢ no-cost → ¬ LeadsOn t i d j → Lowest (LeadsOn t i d) k → entry-by rules i j d ≡ forward k
-    goes {k} a r n l =
-        let c = chosen-lowest t o i d a (real r) in
-        others-go rules i j d a (routed r) (kept n (has (next-hops t i d) j) refl)
-        ∙ ap forward (omega (arith, c .1 k (l .0), l .1 (chosen (next-hops t i d)) (c .0)))
+    go : {e : Entry} → Enters rules i j d e → FourLines t i j d (code e)
+    go (at-home e) = record {
+      delivers = (λ c. e, λ h. refl);
+      has-none = λ a. absurd (a e);
+      discards = λ a. absurd (a e);
+      forwards = λ a. absurd (a e);
+    }
+    go (cut-off a r) =
+        let none : cost t i d ≡ no-cost = omega (arith, ltb-false (cost t i d) no-cost r, cost-laws t o d .top i) in
+        record {
+          delivers = (omega arith, λ h. absurd (a h));
+          has-none = λ a. (λ c. none, λ h. refl);
+          discards = λ a n. absurd (n none);
+          forwards = λ a n. absurd (n none);
+        }
+    go (drops a r x) =
+        let leads : LeadsOn t i d j = sets-have-neighbours t o i d j .0 x in
+        record {
+          delivers = (omega arith, λ h. absurd (a h));
+          has-none = λ a. (omega arith, λ h. absurd (real r h));
+          discards = λ a n. (λ c. leads, λ l. refl);
+          forwards = λ a n l. absurd (l leads);
+        }
+    go (sends a r x) =
+        let low = chosen-lowest t o i d a (ltb-true (cost t i d) no-cost r) in
+        let few = net t o .inside i (chosen (next-hops t i d)) (low .0 .0) .1 in
+        let c = chosen (next-hops t i d) in
+        record {
+          delivers = (omega (arith, few, o .few-routers), λ h. absurd (a h));
+          has-none = λ a. (omega (arith, few, o .few-routers), λ h. absurd (real r h));
+          discards = λ a n. (omega (arith, few, o .few-routers), λ l. absurd (false≢true (sym x ∙ sets-have-neighbours t o i d j .1 l)));
+          forwards = λ a n l k. (λ e. subst (Lowest (LeadsOn t i d)) e low, λ m. omega (arith, low .1 k (m .0), m .1 c (low .0)));
+        }

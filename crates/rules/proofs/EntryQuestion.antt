@@ -1,6 +1,6 @@
 -- What is proved of the entry question.
 -- Assumes nothing.
-use mathlib.Core.Path.{_≡_, refl}
+use mathlib.Core.Path.{_≡_, refl, sym, subst}
 use mathlib.Core.Logic.{_≢_, _⊎_, inl, inr, _↔_}
 use mathlib.Core.Bool.{false, _&&_, _||_, not, and-false}
 use mathlib.Core.List.{[], _∷_}
@@ -10,7 +10,12 @@ use native.Mathlib.Omega.{arith}
 use lib.Dec.{eqb, leb}
 use borrow.Author.Tests.{leb-false, lt-leb, eqb-false, eq-eqb, ne-eqb}
 use Rattle.rules.specs.Table.{says}
-use Rattle.rules.specs.EntryQuestion.{EntryInputs, bad-previous, entry-refusals, entry-answer, EntryNumbers, EntryProved}
+use Rattle.rules.specs.Entries.{code}
+use Rattle.rules.specs.Demand2.{FourLines}
+use Rattle.rules.specs.Answers.{Exactly}
+use Rattle.rules.specs.EntryQuestion.{EntryInputs, bad-previous, entry-refusals, entry-asked, entry-answer, EntryNumbers, entry-cases, EntryProved}
+use Rattle.rules.proofs.Acceptance.{obeys}
+use Rattle.rules.proofs.Entries.{entries-by-lines}
 use Rattle.rules.proofs.Answers.{tables-first, listed-numbers, asks-both, asks-routers}
 
 -- a previous hop that is 255 or a router, and not the router asked about
@@ -37,13 +42,19 @@ asks-numbers n i j d =
     )
 
 pub entry-proved : (q : EntryInputs) → EntryProved q
-unfolding entry-answer entry-refusals
+unfolding entry-answer entry-refusals entry-asked
 entry-proved q = record {
-  exactly =
-      tables-first _ (q .table ∷ []) (entry-refusals n (q .router) (q .previous) (q .destination)) _ _ _
-      (refl, asks-numbers n (q .router) (q .previous) (q .destination), tt) (omega arith, tt);
+  exactly = exact;
   refusals = listed-numbers _ (q .table ∷ []) (entry-refusals n (q .router) (q .previous) (q .destination)) _ _;
+  by-lines = λ h.
+      subst (FourLines (says (q .table)) (q .router) (q .previous) (q .destination)) (sym (exact .given h))
+      (entries-by-lines (says (q .table)) (obeys (q .table) (exact .asked .0 h .0)) (q .router) (q .previous) (q .destination));
 }
   where
     n : ℕ
     n = says (q .table) .routers
+
+    exact : Exactly (entry-cases q) 0 (code (entry-asked q)) (entry-answer q)
+    exact =
+        tables-first _ (q .table ∷ []) (entry-refusals n (q .router) (q .previous) (q .destination)) _ _ _
+        (refl, asks-numbers n (q .router) (q .previous) (q .destination), tt) (omega arith, tt)

@@ -1,37 +1,83 @@
 -- What is proved of the name questions: the part handed back is the very bytes of the name inside the table, and lies within it.
 -- Assumes nothing.
 use mathlib.Core.Path.{_≡_, refl, sym, _∙_, ap, ap₂, subst}
+use mathlib.Core.Logic.{_≢_}
 use mathlib.Core.Option.{Option, none, some, Option·some-injective}
 use mathlib.Core.Bool.{Bool, true, false}
-use mathlib.Core.List.{List, [], _∷_}
-use Prim.Native.Nat.{ℕ, _≤_}
+use mathlib.Core.List.{List, [], _∷_, List·Memᴰ, List·Memᴰ·head, List·Memᴰ·tail, Memᴰ·map, map}
+use Prim.Native.Nat.{ℕ, _≤_, _<_}
 use native.Mathlib.Decide.{ℕ-discrete}
 use native.Mathlib.Omega.{arith}
 use lib.Dec.{eqb}
 use lib.ListN.{length, take, drop, length-take, length-drop}
-use borrow.Author.Tests.{eq-eqb, ne-eqb}
-use Rattle.rules.specs.Words.{pick, All}
+use borrow.Author.Tests.{eqb-true, eqb-false, eq-eqb, ne-eqb}
+use Rattle.rules.specs.Words.{pick, All, Rising}
 use Rattle.rules.specs.Layout.{Name, NameFits}
 use Rattle.rules.specs.Table.{says}
 use Rattle.rules.specs.Names.{Part, part-bytes, name-in, part-or, empty-part, named, or-else}
 use Rattle.rules.specs.Demand1.{IsAccepted}
 use Rattle.rules.specs.Answers.{Answer, Answered, RefusedBy, Exactly}
-use Rattle.rules.specs.NameQuestions.{name-for, PartFits, NameInputs, name-refusals, name-found, name-cases, name-answer, name-part, NameProved, TwoNamesInputs, two-names-refusals, found-in-new, found-in-old, two-names-cases, two-names-answer, two-names-part, table-in, TwoNamesProved}
-use Rattle.rules.proofs.Basics.{pick-t, pick-f}
+use Rattle.rules.specs.NameQuestions.{name-for, NamesAreFound, PartFits, NameInputs, name-refusals, name-found, name-cases, name-answer, name-part, NameProved, TwoNamesInputs, two-names-refusals, found-in-new, found-in-old, two-names-cases, two-names-answer, two-names-part, table-in, TwoNamesProved}
+use Rattle.rules.proofs.Basics.{pick-t, pick-f, All-listed}
 use Rattle.rules.proofs.Acceptance.{obeys}
 use Rattle.rules.proofs.Lengths.{lengths-hold}
 use Rattle.rules.proofs.Names.{StandsIn, names-stand}
 use Rattle.rules.proofs.Answers.{tables-first, listed-numbers, asks-<, asks-routers}
 
+-- ---- the name found is the router's own
+
+module _ (i : ℕ) where
+  -- it is a listed name of this router,
+  found-own : (ms : List Name) (m : Name) → name-in ms i ≡ some m → List·Memᴰ m ms × (m .router ≡ i)
+  unfolding name-in
+  found-own [] m e = absurd (omega (arith, ap named e))
+  found-own (x ∷ xs) m e = go (eqb (x .router) i) refl e (found-own xs m)
+    where
+      go : (t : Bool) → eqb (x .router) i ≡ t → pick t (some x) (name-in xs i) ≡ some m → (name-in xs i ≡ some m → List·Memᴰ m xs × (m .router ≡ i))
+          → List·Memᴰ m (x ∷ xs) × (m .router ≡ i)
+      go true q e ih =
+          let same = Option·some-injective x m e in
+          (List·Memᴰ·head (sym same), ap (λ (m : Name). m .router) (sym same) ∙ eqb-true (x .router) i q)
+      go false q e ih = let (l, r) = ih e in (List·Memᴰ·tail l, r)
+
+  -- and the only one, because routers rise
+  own-found : (ms : List Name) → Rising (map (λ m. m .router) ms) → (m : Name) → List·Memᴰ m ms → m .router ≡ i → name-in ms i ≡ some m
+  unfolding name-in
+  own-found [] r m l e = elim l [ ]
+  own-found (x ∷ xs) r m (List·Memᴰ·head q) e = pick-t _ _ _ (eq-eqb (x .router) i (ap (λ (m : Name). m .router) (sym q) ∙ e)) ∙ ap some (sym q)
+  own-found (x ∷ xs) r m (List·Memᴰ·tail l) e =
+      let higher = All-listed (λ n. x .router < n) (map (λ m. m .router) xs) (r .0) (m .router) (Memᴰ·map (λ m. m .router) l) in
+      pick-f _ _ _ (ne-eqb (x .router) i (omega arith)) ∙ own-found xs (r .1) m l e
+
+  none-own : (ms : List Name) → name-in ms i ≡ none → All (λ m. m .router ≢ i) ms
+  unfolding name-in
+  none-own [] e = tt
+  none-own (x ∷ xs) e = go (eqb (x .router) i) refl e (none-own xs)
+    where
+      go : (t : Bool) → eqb (x .router) i ≡ t → pick t (some x) (name-in xs i) ≡ none → (name-in xs i ≡ none → All (λ m. m .router ≢ i) xs)
+          → (x .router ≢ i) × All (λ m. m .router ≢ i) xs
+      go true q e ih = absurd (omega (arith, ap named e))
+      go false q e ih = (eqb-false (x .router) i q, ih e)
+
+  own-none : (ms : List Name) → All (λ m. m .router ≢ i) ms → name-in ms i ≡ none
+  unfolding name-in
+  own-none [] h = refl
+  own-none (x ∷ xs) h = pick-f _ _ _ (ne-eqb (x .router) i (h .0)) ∙ own-none xs (h .1)
+
+pub names-are-found : NamesAreFound
+names-are-found table a i = record {
+  its-own = λ m. (found-own i ms m, λ (l, e). own-found i ms (obeys table a .names-rise) m l e);
+  no-other = (none-own i ms, own-none i ms);
+}
+  where
+    ms : List Name
+    ms = says table .names
+
+-- ---- its part
+
 -- what holds of every name listed holds of one that is found
 found-holds : (P : Name → Type 0) (ms : List Name) → All P ms → (i : ℕ) (m : Name) → name-in ms i ≡ some m → P m
-unfolding name-in
-found-holds P [] h i m e = absurd (omega (arith, ap named e))
-found-holds P (x ∷ xs) h i m e = go (eqb (x .router) i) e (found-holds P xs (h .1) i m)
-  where
-    go : (t : Bool) → pick t (some x) (name-in xs i) ≡ some m → (name-in xs i ≡ some m → P m) → P m
-    go true e ih = subst P (Option·some-injective x m e) (h .0)
-    go false e ih = ih e
+found-holds P ms h i m e = All-listed P ms h m (found-own i ms m e .0)
 
 -- a name that is found stands in the table
 part-stands : (bytes : List ℕ) (i : ℕ) (m : Name) → name-for bytes i ≡ some m → StandsIn bytes m

@@ -100,7 +100,10 @@ number unless asks = record { refusal = refusal number; asks = asks }
 
 -- a table is accepted; unless it is, its own number and place refuse
 abbrev pub accepts : ℕ → List ℕ → Case
-accepts which bytes = record { refusal = of-table which bytes; asks = IsAccepted bytes }
+accepts which bytes = record {
+  refusal = record { number = number-of (read bytes); table = which; place = place-of (read bytes) };
+  asks = IsAccepted bytes;
+}
 
 -- every case holds
 abbrev pub AllHold : List Case → Type 0

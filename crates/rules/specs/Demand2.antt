@@ -13,7 +13,7 @@ use Rattle.rules.specs.Links.{weight}
 use Rattle.rules.specs.Routes.{Route}
 use Rattle.rules.specs.Costs.{LeastCost, cost, no-cost}
 use Rattle.rules.specs.NextHops.{chosen, has, next-hops, size}
-use Rattle.rules.specs.Entries.{code, cell, deliver, discard, entry, forward, interfaces, no-route}
+use Rattle.rules.specs.Entries.{code, cell, entry, forward, interfaces}
 use Rattle.rules.specs.Listing.{decimal}
 
 -- ---- least cost (proofs/LeastCost)
@@ -82,16 +82,17 @@ ChosenByBits = (set : ℕ) → set < 2 ^ 64 → ByBits set
 abbrev pub Lowest : (ℕ → Type 0) → ℕ → Type 0
 Lowest P k = P k × ((m : ℕ) → P m → k ≤ m)
 
--- The four lines, over costs and neighbours: deliver exactly where i = d; else no route exactly where the cost is 4294967295; else discard exactly
--- where j is a neighbour that leads on; else forward to the lowest neighbour that does. j need not be linked to i.
-pub record FourLines (t : Table) (i j d : ℕ) : Type 0 where
-  pub delivers : (entry t i j d ≡ deliver) ↔ (i ≡ d)
-  pub has-none : i ≢ d → (entry t i j d ≡ no-route) ↔ (cost t i d ≡ no-cost)
-  pub discards : i ≢ d → cost t i d ≢ no-cost → (entry t i j d ≡ discard) ↔ LeadsOn t i d j
-  pub forwards : i ≢ d → cost t i d ≢ no-cost → ¬ LeadsOn t i d j → (k : ℕ) → (entry t i j d ≡ forward k) ↔ Lowest (LeadsOn t i d) k
+-- The four lines of an entry that has this code, over costs and neighbours: deliver (128) exactly where i = d; else no route (130) exactly where the
+-- cost is 4294967295; else discard (129) exactly where j is a neighbour that leads on; else forward to the lowest neighbour that does. j need not be
+-- linked to i.
+pub record FourLines (t : Table) (i j d c : ℕ) : Type 0 where
+  pub delivers : (c ≡ 128) ↔ (i ≡ d)
+  pub has-none : i ≢ d → (c ≡ 130) ↔ (cost t i d ≡ no-cost)
+  pub discards : i ≢ d → cost t i d ≢ no-cost → (c ≡ 129) ↔ LeadsOn t i d j
+  pub forwards : i ≢ d → cost t i d ≢ no-cost → ¬ LeadsOn t i d j → (k : ℕ) → (c ≡ k) ↔ Lowest (LeadsOn t i d) k
 
 abbrev pub EntriesByLines : Type 0
-EntriesByLines = (t : Table) → Obeys t → (i j d : ℕ) → FourLines t i j d
+EntriesByLines = (t : Table) → Obeys t → (i j d : ℕ) → FourLines t i j d (code (entry t i j d))
 
 -- a router forwards to a router, a member of its set, so that the codes 0 to 63 and 128 to 131 tell all cases apart
 abbrev pub EntriesForward : Type 0

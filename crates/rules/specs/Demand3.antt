@@ -1,6 +1,6 @@
 -- What demand 3 says, as statements: no router twice, whatever the views. Each is proved in the file of `proofs/` that its heading names.
 use mathlib.Core.Path.{_≡_}
-use mathlib.Core.Logic.{_≢_}
+use mathlib.Core.Logic.{_≢_, _↔_}
 use mathlib.Core.Bool.{true, false}
 use mathlib.Core.List.{List, [], _∷_}
 use Prim.Native.Nat.{ℕ, suc, _+_, _-_, _≤_, _<_}
@@ -12,19 +12,23 @@ use Rattle.rules.specs.Pairs.{differing}
 use Rattle.rules.specs.Costs.{cost, no-cost}
 use Rattle.rules.specs.NextHops.{has, next-hops}
 use Rattle.rules.specs.Entries.{deliver, discard, entry, entry-by, forward, no-route, starts-here}
-use Rattle.rules.specs.Paths.{Choice, Outcome, Packet, Path, Site, View, by, crossed, delivered, discarded, ended, entry-at, path-in, listed, lost, new-view, path, site-of, unrouted}
+use Rattle.rules.specs.Paths.{Choice, Outcome, Packet, Path, Site, View, by, delivered, discarded, ended, entry-at, path-in, listed, lost, new-view, path, site-of, unrouted}
 
 -- ---- following as a relation: what arriving and leaving give, however many hops it takes
 
 -- n routers have decided; the packet stands at i and came from j
 pub data Follows (site : Site) (choice : Choice) : ℕ → ℕ → ℕ → Path → Type 0 where
-  delivers : {n i j : ℕ} → entry-at site choice n i j ≡ deliver → Follows site choice n i j (ended delivered i)
-  discards : {n i j : ℕ} → entry-at site choice n i j ≡ discard → Follows site choice n i j (ended discarded i)
-  has-none : {n i j : ℕ} → entry-at site choice n i j ≡ no-route → Follows site choice n i j (ended unrouted i)
+  delivers : {n i j : ℕ} → entry-at site choice n i j ≡ deliver
+      → Follows site choice n i j (record { outcome = delivered; router = i; hops = 0; trace = i ∷ [] })
+  discards : {n i j : ℕ} → entry-at site choice n i j ≡ discard
+      → Follows site choice n i j (record { outcome = discarded; router = i; hops = 0; trace = i ∷ [] })
+  has-none : {n i j : ℕ} → entry-at site choice n i j ≡ no-route
+      → Follows site choice n i j (record { outcome = unrouted; router = i; hops = 0; trace = i ∷ [] })
   loses : {n i j k : ℕ} → entry-at site choice n i j ≡ forward k → site .carries i k ≡ false
-      → Follows site choice n i j (ended lost i)
+      → Follows site choice n i j (record { outcome = lost; router = i; hops = 0; trace = i ∷ [] })
   crosses : {n i j k : ℕ} {onward : Path} → entry-at site choice n i j ≡ forward k → site .carries i k ≡ true
-      → Follows site choice (suc n) k i onward → Follows site choice n i j (crossed i onward)
+      → Follows site choice (suc n) k i onward
+      → Follows site choice n i j (record { outcome = onward .outcome; router = onward .router; hops = suc (onward .hops); trace = i ∷ onward .trace })
 
 -- ---- what is asked
 
@@ -131,4 +135,6 @@ pub record Demand3OfPath (packet : Packet) (choice : Choice) : Type 0 where
   pub by-entries : (v : View) (i j : ℕ)
       → entry-by (site-of packet .rules v) i j (packet .destination) ≡ entry (by v (packet .old) (packet .new)) i j (packet .destination)
   pub over-new-links : EachHop (λ i k. 0 < weight (packet .new) i k) (path packet choice .trace)
+  -- the real links are those of the new table
+  pub real-links : (i k : ℕ) → (site-of packet .carries i k ≡ true) ↔ (0 < weight (packet .new) i k)
   pub all-new : AllNew choice (path packet choice) → AtLeastCost (packet .new) (packet .source) (packet .destination) (path packet choice)

@@ -7,7 +7,8 @@ use Prim.Native.Nat.{ℕ, _<_}
 use Rattle.rules.specs.Words.{_=?_, Line, _when_}
 use Rattle.rules.specs.Table.{says}
 use Rattle.rules.specs.Entries.{Entry, entry, code, starts-here}
-use Rattle.rules.specs.Answers.{Answer, answer, on-tables, bad-router, Case, _unless_, accepts, Exactly, RefusedBy}
+use Rattle.rules.specs.Demand2.{FourLines}
+use Rattle.rules.specs.Answers.{Answer, Answered, answer, on-tables, bad-router, Case, _unless_, accepts, Exactly, RefusedBy}
 
 pub record EntryInputs : Type 0 where
   pub table : List ℕ
@@ -47,3 +48,5 @@ entry-cases q = accepts 0 (q .table) ∷ 9 unless EntryNumbers (says (q .table) 
 pub record EntryProved (q : EntryInputs) : Type 0 where
   pub exactly : Exactly (entry-cases q) 0 (code (entry-asked q)) (entry-answer q)
   pub refusals : RefusedBy 0 (9 ∷ []) 0 (entry-answer q)
+  -- the code is by the four lines, over costs and neighbours
+  pub by-lines : Answered (entry-answer q) → FourLines (says (q .table)) (q .router) (q .previous) (q .destination) (entry-answer q .values)

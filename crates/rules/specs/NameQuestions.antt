@@ -1,18 +1,29 @@
 -- The name of a router, in one table or in two: the part handed back, and the companion's answer: 1 named, 0 unnamed, or the refusal.
 use mathlib.Core.Path.{_≡_}
+use mathlib.Core.Logic.{_≢_, _↔_}
 use mathlib.Core.Bool.{_||_}
-use mathlib.Core.List.{List, [], _∷_}
+use mathlib.Core.List.{List, [], _∷_, List·Memᴰ}
 use mathlib.Core.Option.{Option, none, some}
 use Prim.Native.Nat.{ℕ, _+_, _≤_, _<_}
 use lib.ListN.{length}
-use Rattle.rules.specs.Words.{_=?_, pick, Line, _when_}
+use Rattle.rules.specs.Words.{_=?_, pick, Line, _when_, All}
 use Rattle.rules.specs.Layout.{Name, longest-table}
 use Rattle.rules.specs.Table.{says}
 use Rattle.rules.specs.Names.{Part, part-bytes, name-in, part-or, empty-part, named, or-else}
+use Rattle.rules.specs.Demand1.{IsAccepted}
 use Rattle.rules.specs.Answers.{Answer, Answered, Refused, answer, on-tables, bad-router, Case, _unless_, accepts, Exactly, RefusedBy}
 
 abbrev pub name-for : List ℕ → ℕ → Option Name
 name-for table i = name-in (says table .names) i
+
+-- The name found is the one that the table gives to router i, and none is found exactly where the table gives it none.
+pub record NameFound (table : List ℕ) (i : ℕ) : Type 0 where
+  pub its-own : (m : Name) → (name-for table i ≡ some m) ↔ (List·Memᴰ m (says table .names) × (m .router ≡ i))
+  pub no-other : (name-for table i ≡ none) ↔ All (λ m. m .router ≢ i) (says table .names)
+
+-- of every accepted table (proofs/NameQuestions)
+abbrev pub NamesAreFound : Type 0
+NamesAreFound = (table : List ℕ) → IsAccepted table → (i : ℕ) → NameFound table i
 
 -- a name that is handed back: 1 to 16 bytes within these bytes, which are no longer than the longest table
 pub record PartFits (bytes : List ℕ) (part : Part) : Type 0 where

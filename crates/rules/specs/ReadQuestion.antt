@@ -23,4 +23,4 @@ read-answer table = answer (on-tables (table ∷ []) []) no-reading (reading (sa
 
 pub record ReadProved (table : List ℕ) : Type 0 where
   pub exactly : Exactly (accepts 0 table ∷ []) no-reading (reading (says table)) (read-answer table)
-  pub refusals : RefusedBy 0 [] no-reading (read-answer table)
+  pub refusals : RefusedBy 0 [] (record { routers = 0; links = 0 }) (read-answer table)
