@@ -16,11 +16,15 @@ use Rattle.rules.specs.Entries.{entry-by, rules-of, entry, cell, row, in
 use Rattle.rules.specs.Paths.{outcome-code, listed, follow, path-in, site-of}
 use Rattle.rules.specs.Answers.{Answered, table-refusal, answer, afterwards}
 use Rattle.rules.specs.ReadQuestion.{read-answer}
+use Rattle.rules.specs.Names.{name-in}
+use Rattle.rules.specs.PairQuestion.{pair-answer}
+use Rattle.rules.specs.FillQuestion.{fill-refusals, fill-answer, costs-after, sets-after}
+use Rattle.rules.specs.NameQuestions.{name-answer, name-part}
 use Rattle.rules.specs.EntryQuestion.{entry-refusals, entry-asked, entry-answer}
 use Rattle.rules.specs.InterfacesQuestion.{interfaces-refusals, interfaces-answer, interfaces-after}
 use Rattle.rules.specs.PathQuestion.{PathInputs, GoodViews, few-views, bad-views, bad-numbers, path-refusals, path-of, path-numbers, path-answer, trace-after}
 use Rattle.rules.specs.Listing.{digits, joined-by-commas, cost-and-next, line-of, line, lines-from, lines, header, refusal-line, listing-lines, listing}
-use Rattle.rules.specs.Examples.{triangle-old, triangle-new, follows, ends, reply, BenchExamples, EntryExample, InterfaceExample, ListingExamples}
+use Rattle.rules.specs.Examples.{OtherExamples, triangle-old, triangle-new, follows, ends, reply, BenchExamples, EntryExample, InterfaceExample, ListingExamples}
 use Rattle.rules.proofs.PathQuestion.{path-proved}
 
 -- ---- P1 to P12
@@ -55,6 +59,10 @@ bench-examples any g =
 pub entry-example : EntryExample
 unfolding entry-answer entry-refusals entry-asked entry table-refusal answer read judge judge-from step bad-tag known-tag length-allowed contents-fit routers-fit name-fits name-byte link-fits key keep not-above too-many says table-of routers-of those every below weight-in direct best cost has members set-of chosen leads next-hops entry-by rules-of
 entry-example = refl
+
+pub other-examples : OtherExamples
+unfolding fill-answer fill-refusals costs-after sets-after pair-answer name-answer name-part name-in table-refusal answer afterwards read judge judge-from step bad-tag known-tag length-allowed contents-fit routers-fit name-fits name-byte link-fits key keep not-above too-many says table-of routers-of those every below weight-in tally differing too-different direct best cost set-of leads next-hops
+other-examples = record { no-route-costs = refl; no-route-sets = refl; is-named = refl; name-there = refl; new-refused = refl }
 
 pub interface-example : InterfaceExample
 unfolding interfaces-after interfaces-answer interfaces-refusals interfaces row cell entry table-refusal answer afterwards read judge judge-from step bad-tag known-tag length-allowed contents-fit routers-fit name-fits name-byte link-fits key keep not-above too-many says table-of routers-of those every below weight-in direct best cost has members set-of chosen leads next-hops entry-by rules-of flatten

@@ -1,14 +1,17 @@
--- The bench examples of document 01, on bytes: P1 to P12 as one list of questions with their replies, an entry, an interface table, and listings.
+-- The bench examples of document 01, on bytes: P1 to P12 as one list of questions with their replies, entries, an interface table, listings, and what these do not show.
 use mathlib.Core.Path.{_≡_}
 use mathlib.Core.List.{List, [], _∷_, _++_, map}
 use Prim.Native.Nat.{ℕ}
 use lib.ListN.{replicate}
 use Rattle.rules.specs.Words.{_=?_, pick, All, text}
-use Rattle.rules.specs.Answers.{Refusal, answered}
+use Rattle.rules.specs.Answers.{Refusal, answered, refused-with}
 use Rattle.rules.specs.ReadQuestion.{read-answer}
+use Rattle.rules.specs.PairQuestion.{pair-answer}
+use Rattle.rules.specs.FillQuestion.{FillInputs, costs-after, sets-after}
 use Rattle.rules.specs.EntryQuestion.{entry-answer}
 use Rattle.rules.specs.InterfacesQuestion.{interfaces-after}
 use Rattle.rules.specs.PathQuestion.{PathInputs, GoodViews, path-answer, trace-after}
+use Rattle.rules.specs.NameQuestions.{name-answer, name-part}
 use Rattle.rules.specs.Listing.{listing}
 
 -- ---- tables
@@ -117,6 +120,22 @@ BenchExamples = (any : List ℕ) → GoodViews 3 any → All (λ c. reply (c .0)
 
 abbrev pub EntryExample : Type 0
 EntryExample = entry-answer (record { table = routers 3 ++ link 0 1 1 ++ table-end; router = 0; previous = 2; destination = 1 }) ≡ answered 1
+
+-- ---- what no example above shows: what is written where there is no route, a name, and a refusal of the new table
+
+abbrev apart-to-0 : FillInputs
+apart-to-0 = record { table = pair-apart; destination = 0; costs = replicate 3 7; sets = replicate 3 7 }
+
+-- one router, called A
+abbrev named-table : List ℕ
+named-table = routers 1 ++ (0x02 ∷ 0x00 ∷ 0x02 ∷ 0 ∷ 0x41 ∷ []) ++ table-end
+
+pub record OtherExamples : Type 0 where
+  pub no-route-costs : costs-after apart-to-0 ≡ 0 ∷ 4294967295 ∷ 7 ∷ []
+  pub no-route-sets : sets-after apart-to-0 ≡ 0 ∷ 0 ∷ 7 ∷ []
+  pub is-named : name-answer (record { table = named-table; router = 0 }) ≡ answered 1
+  pub name-there : name-part (record { table = named-table; router = 0 }) ≡ record { table = 0; place = 8; size = 1 }
+  pub new-refused : pair-answer (record { old = pair-apart; new = routers 65 ++ table-end }) ≡ refused-with (record { routers = 0; differ = 0 }) 4 1 0
 
 -- ---- the old triangle's interface table of router 0, in thirteen lent bytes
 

@@ -49,5 +49,7 @@ fill-cases q =
 pub record FillProved (q : FillInputs) : Type 0 where
   pub exactly : Exactly (fill-cases q) 0 (says (q .table) .routers) (fill-answer q)
   pub refusals : RefusedBy 0 (9 ∷ 10 ∷ []) 0 (fill-answer q)
-  pub costs-held : Output (fill-answer q) (says (q .table) .routers) (filled-costs (says (q .table)) (q .destination)) (q .costs) (costs-after q)
-  pub sets-held : Output (fill-answer q) (says (q .table) .routers) (filled-sets (says (q .table)) (q .destination)) (q .sets) (sets-after q)
+  pub costs-held : Output (fill-answer q) (says (q .table) .routers)
+      (map (λ i. cost (says (q .table)) i (q .destination)) (below (says (q .table) .routers))) (q .costs) (costs-after q)
+  pub sets-held : Output (fill-answer q) (says (q .table) .routers)
+      (map (λ i. next-hops (says (q .table)) i (q .destination)) (below (says (q .table) .routers))) (q .sets) (sets-after q)

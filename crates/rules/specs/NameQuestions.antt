@@ -62,9 +62,9 @@ name-cases q = accepts 0 (q .table) ∷ 9 unless (q .router < says (q .table) .r
 pub record NameProved (q : NameInputs) : Type 0 where
   pub exactly : Exactly (name-cases q) 0 (named (name-found q)) (name-answer q)
   pub refusals : RefusedBy 0 (9 ∷ []) 0 (name-answer q)
-  pub when-refused : Refused (name-answer q) → name-part q ≡ empty-part 0 (q .table)
+  pub when-refused : Refused (name-answer q) → name-part q ≡ record { table = 0; place = length (q .table); size = 0 }
   pub when-unnamed : Answered (name-answer q) → name-found q ≡ none
-      → (name-answer q .values ≡ 0) × (name-part q ≡ empty-part 0 (q .table))
+      → (name-answer q .values ≡ 0) × (name-part q ≡ record { table = 0; place = length (q .table); size = 0 })
   pub when-named : (m : Name) → Answered (name-answer q) → name-found q ≡ some m
       → (name-answer q .values ≡ 1) × (name-part q .table ≡ 0) × (part-bytes (q .table) (name-part q) ≡ m .bytes)
   pub fits : name-answer q .values ≡ 1 → PartFits (q .table) (name-part q)
@@ -116,9 +116,9 @@ two-names-cases q =
 pub record TwoNamesProved (q : TwoNamesInputs) : Type 0 where
   pub exactly : Exactly (two-names-cases q) 0 (named (or-else (found-in-new q) (found-in-old q))) (two-names-answer q)
   pub refusals : RefusedBy 1 (9 ∷ []) 0 (two-names-answer q)
-  pub when-refused : Refused (two-names-answer q) → two-names-part q ≡ empty-part 1 (q .new)
+  pub when-refused : Refused (two-names-answer q) → two-names-part q ≡ record { table = 1; place = length (q .new); size = 0 }
   pub when-unnamed : Answered (two-names-answer q) → found-in-new q ≡ none → found-in-old q ≡ none
-      → (two-names-answer q .values ≡ 0) × (two-names-part q ≡ empty-part 1 (q .new))
+      → (two-names-answer q .values ≡ 0) × (two-names-part q ≡ record { table = 1; place = length (q .new); size = 0 })
   pub when-new : (m : Name) → Answered (two-names-answer q) → found-in-new q ≡ some m
       → (two-names-answer q .values ≡ 1) × (two-names-part q .table ≡ 1) × (part-bytes (q .new) (two-names-part q) ≡ m .bytes)
   pub when-old : (m : Name) → Answered (two-names-answer q) → found-in-new q ≡ none → found-in-old q ≡ some m

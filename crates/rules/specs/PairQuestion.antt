@@ -50,6 +50,7 @@ pub record AcceptedTogether (old new : List ℕ) : Type 0 where
   pub one-link : differing (says old) (says new) ≤ 1
 
 pub record PairProved (q : PairInputs) : Type 0 where
-  pub exactly : Exactly (pair-cases q) no-pairing (pairing (says (q .old)) (says (q .new))) (pair-answer q)
+  pub exactly : Exactly (pair-cases q) (record { routers = 0; differ = 0 })
+      (record { routers = says (q .new) .routers; differ = differing (says (q .old)) (says (q .new)) }) (pair-answer q)
   pub asked : Answered (pair-answer q) ↔ AcceptedTogether (q .old) (q .new)
   pub refusals : RefusedBy 1 (8 ∷ []) (record { routers = 0; differ = 0 }) (pair-answer q)

@@ -22,5 +22,6 @@ read-answer table = answer (on-tables (table ∷ []) []) no-reading (reading (sa
 -- ---- what is proved (proofs/ReadQuestion)
 
 pub record ReadProved (table : List ℕ) : Type 0 where
-  pub exactly : Exactly (accepts 0 table ∷ []) no-reading (reading (says table)) (read-answer table)
+  pub exactly : Exactly (accepts 0 table ∷ []) (record { routers = 0; links = 0 })
+      (record { routers = says table .routers; links = length (says table .links) }) (read-answer table)
   pub refusals : RefusedBy 0 [] (record { routers = 0; links = 0 }) (read-answer table)
