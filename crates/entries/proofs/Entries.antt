@@ -28,36 +28,36 @@ use Rattle.search.specs.Search.{FindsCosts}
 use Rattle.search.proofs.OfTable.{found-hops}
 use Rattle.routes.specs.Hops.{FindsHops}
 use Rattle.entries.specs.declared.Entry.the-variants.{Deliver, Discard, NoRoute, Forward}
-use Rattle.entries.specs.Entries.{entry-told, rules-by, Decides}
+use Rattle.entries.specs.Entries.{entry-told, rules-by, pipo, Decides}
 
--- ---- the four lines, by a set
+-- ---- the four lines, by a set and the previous hops whose packets are dropped
 
-module _ (set i j d : ℕ) where
-  pub delivers : i ≡ d → Decides set i j d Deliver
+module _ (set dropped i j d : ℕ) where
+  pub delivers : i ≡ d → Decides set dropped i j d Deliver
   unfolding entry-told
-  delivers e = sym (home-delivers (rules-by set) i j d e)
+  delivers e = sym (home-delivers (rules-by set dropped) i j d e)
 
   module _ (a : i ≢ d) where
-    pub cut-off : set ≡ 0 → Decides set i j d NoRoute
+    pub cut-off : set ≡ 0 → Decides set dropped i j d NoRoute
     unfolding entry-told entry-by rules-by
     cut-off e = rw (ne-eqb i d a, le-ltb 0 set (omega arith))
 
     module _ (s : set ≢ 0) where
-      pub drops : has set j ≡ true → Decides set i j d Discard
+      pub drops : has dropped j ≡ true → Decides set dropped i j d Discard
       unfolding entry-told rules-by
-      drops e = sym (discards-drop (rules-by set) i j d a (lt-ltb 0 set (omega arith)) e)
+      drops e = sym (discards-drop (rules-by set dropped) i j d a (lt-ltb 0 set (omega arith)) e)
 
-      pub sends : (k : ℕ) → k ≡ chosen set → has set j ≡ false → Decides set i j d (Forward k)
+      pub sends : (k : ℕ) → k ≡ chosen set → has dropped j ≡ false → Decides set dropped i j d (Forward k)
       unfolding entry-told rules-by
-      sends k q e = ap forward q ∙ sym (others-go (rules-by set) i j d a (lt-ltb 0 set (omega arith)) e)
+      sends k q e = ap forward q ∙ sym (others-go (rules-by set dropped) i j d a (lt-ltb 0 set (omega arith)) e)
 
 -- away from the destination the set is empty exactly if there is no route, so that the set alone decides as the table does
-pub by-set : (t : Table) → Obeys t → (i j d set : ℕ) → set ≡ next-hops t i d → entry-by (rules-by set) i j d ≡ entry t i j d
+pub by-set : (t : Table) → Obeys t → (i j d set : ℕ) → set ≡ next-hops t i d → entry-by (pipo set) i j d ≡ entry t i j d
 unfolding entry entry-by rules-by rules-of
 by-set t o i j d set q = rw q (go (ℕ-discrete i d))
   where
-    go : Dec (i ≡ d) → entry-by (rules-by (next-hops t i d)) i j d ≡ entry-by (rules-of t d) i j d
-    go (yes e) = home-delivers (rules-by (next-hops t i d)) i j d e ∙ sym (home-delivers (rules-of t d) i j d e)
+    go : Dec (i ≡ d) → entry-by (pipo (next-hops t i d)) i j d ≡ entry-by (rules-of t d) i j d
+    go (yes e) = home-delivers (pipo (next-hops t i d)) i j d e ∙ sym (home-delivers (rules-of t d) i j d e)
     go (no a) = rw (routed (ℕ-discrete (next-hops t i d) 0))
       where
         routed : Dec (next-hops t i d ≡ 0) → ltb 0 (next-hops t i d) ≡ ltb (cost t i d) no-cost
@@ -77,7 +77,7 @@ pub over-web : (q : EntryInputs) → IsAccepted (q .table) → (t : Outline) →
     → q .destination < 64
     → (costs : List ℕ) → FindsCosts web (q .destination) costs
     → (set : ℕ) → FindsHops web costs (q .router) set
-    → (r : Entry) → r ≡ entry-by (rules-by set) (q .router) (q .previous) (q .destination) → r ≡ entry-asked q
+    → (r : Entry) → r ≡ entry-by (pipo set) (q .router) (q .previous) (q .destination) → r ≡ entry-asked q
 unfolding entry-asked
 over-web q a t o web e b costs f set g r h =
     h

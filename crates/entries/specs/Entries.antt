@@ -20,13 +20,17 @@ entry-told Discard = discard
 entry-told NoRoute = no-route
 entry-told (Forward k) = forward k
 
--- document 01's rules by the next-hop set alone: where it is empty there is no route
-unfoldable pub rules-by : ℕ → Rules
-rules-by set = record { has-route = λ i. 0 <? set; discards = λ i j. has set j; hop = λ i j. chosen set }
+-- the rules by a next-hop set alone, with no route where it is empty, and by the previous hops whose packets are dropped
+unfoldable pub rules-by : ℕ → ℕ → Rules
+rules-by set dropped = record { has-route = λ i. 0 <? set; discards = λ i j. has dropped j; hop = λ i j. chosen set }
 
--- r is the entry of router i for previous hop j and destination d, by its next-hop set for d
-abbrev pub Decides : ℕ → ℕ → ℕ → ℕ → EntryHere → Type 0
-Decides set i j d r = entry-told r ≡ entry-by (rules-by set) i j d
+-- document 01's, by rule PIPO: packets from any member of the set are dropped
+abbrev pub pipo : ℕ → Rules
+pipo set = rules-by set set
+
+-- r is the entry of router i for previous hop j and destination d, by its next-hop set for d and the previous hops whose packets are dropped
+abbrev pub Decides : ℕ → ℕ → ℕ → ℕ → ℕ → EntryHere → Type 0
+Decides set dropped i j d r = entry-told r ≡ entry-by (rules-by set dropped) i j d
 
 -- r is the code of an entry
 abbrev pub Codes : EntryHere → ℕ → Type 0

@@ -32,9 +32,10 @@ pub enum EntryAnswer {
 // The previous hop of a packet that starts here.
 pub const STARTS_HERE: u8 = 255;
 
-// The entry by the router's next-hop set for the destination: the first line that applies.
-pub fn decide(set: u64, router: u8, previous: u8, destination: u8) -> Entry
-    ensures { λ r. ⌜ Decides set router previous destination r ⌝ }
+// The entry by the router's next-hop set for the destination and by the previous hops whose packets are dropped, which are the same set by rule PIPO:
+// the first line that applies.
+pub fn decide(set: u64, dropped: u64, router: u8, previous: u8, destination: u8) -> Entry
+    ensures { λ r. ⌜ Decides set dropped router previous destination r ⌝ }
 {
     if router == destination {
         return Entry::Deliver;
@@ -43,7 +44,8 @@ pub fn decide(set: u64, router: u8, previous: u8, destination: u8) -> Entry
         return Entry::NoRoute;
     }
     let hop = chosen(set);
-    if has(set, previous) {
+    let discards = has(dropped, previous);
+    if discards {
         return Entry::Discard;
     }
     Entry::Forward(hop)
@@ -92,7 +94,7 @@ fn entry_in(table: &[u8], t: Outline, router: u8, previous: u8, destination: u8)
     let web = web_of(table, t);
     let costs = costs_from(web, destination);
     let set = next_hops(web, costs, router);
-    decide(set, router, previous, destination)
+    decide(set, set, router, previous, destination)
 }
 
 // The entry of a router for a previous hop (255: the packet starts here) and a destination.

@@ -30,13 +30,13 @@ use Rattle.tables.proofs.Asked.{own-routers}
 use Rattle.sets.proofs.Members.{nobody}
 use Rattle.sets.proofs.Bits.{has-joined}
 use Rattle.entries.specs.declared.Entry.{Entry}
-use Rattle.entries.specs.Entries.{entry-told, rules-by, Decides, Codes}
+use Rattle.entries.specs.Entries.{entry-told, pipo, Decides, Codes}
 use Rattle.entries.proofs.Entries.{delivers, cut-off, drops, sends, by-set}
 use Rattle.interfaces.specs.Interfaces.{code-by, start-codes, code-from, cell-from, members-of, rows}
 
 -- ---- row 255
 
-pub start-code : (sets : List ℕ) (i d : ℕ) (e : Entry) (v : ℕ) → Decides (getD sets d 0) i starts-here d e → Codes e v → v ≡ code-by sets i starts-here d
+pub start-code : (sets : List ℕ) (i d : ℕ) (e : Entry) (v : ℕ) → Decides (getD sets d 0) (getD sets d 0) i starts-here d e → Codes e v → v ≡ code-by sets i starts-here d
 unfolding code-by
 start-code sets i d e v p q = q ∙ ap code p
 
@@ -109,7 +109,7 @@ module _ (sets codes : List ℕ) (i : ℕ) where
 
 -- any other row differs from row 255 where the previous hop is a member of the set
 code-split : (set i j d : ℕ) → set < 2 ^ 64 → (i ≡ d → set ≡ 0)
-    → pick (has set j) 129 (code (entry-by (rules-by set) i starts-here d)) ≡ code (entry-by (rules-by set) i j d)
+    → pick (has set j) 129 (code (entry-by (pipo set) i starts-here d)) ≡ code (entry-by (pipo set) i j d)
 unfolding entry-told
 code-split set i j d b own = go (ℕ-discrete i d) (ℕ-discrete set 0) (has set j) refl
   where
@@ -117,13 +117,13 @@ code-split set i j d b own = go (ℕ-discrete i d) (ℕ-discrete set 0) (has set
     none e = ap (λ s. has s j) e ∙ nobody j
 
     go : Dec (i ≡ d) → Dec (set ≡ 0) → (t : Bool) → has set j ≡ t
-        → pick (has set j) 129 (code (entry-by (rules-by set) i starts-here d)) ≡ code (entry-by (rules-by set) i j d)
-    go (yes e) s t q = pick-f _ _ _ (none (own e)) ∙ ap code (sym (delivers set i starts-here d e) ∙ delivers set i j d e)
-    go (no a) (yes s) t q = pick-f _ _ _ (none s) ∙ ap code (sym (cut-off set i starts-here d a s) ∙ cut-off set i j d a s)
-    go (no a) (no s) true q = pick-t _ _ _ q ∙ ap code (drops set i j d a s q)
+        → pick (has set j) 129 (code (entry-by (pipo set) i starts-here d)) ≡ code (entry-by (pipo set) i j d)
+    go (yes e) s t q = pick-f _ _ _ (none (own e)) ∙ ap code (sym (delivers set set i starts-here d e) ∙ delivers set set i j d e)
+    go (no a) (yes s) t q = pick-f _ _ _ (none s) ∙ ap code (sym (cut-off set set i starts-here d a s) ∙ cut-off set set i j d a s)
+    go (no a) (no s) true q = pick-t _ _ _ q ∙ ap code (drops set set i j d a s q)
     go (no a) (no s) false q =
         pick-f _ _ _ q
-        ∙ ap code (sym (sends set i starts-here d a s (chosen set) refl (has-below set 64 starts-here b (omega arith))) ∙ sends set i j d a s (chosen set) refl q)
+        ∙ ap code (sym (sends set set i starts-here d a s (chosen set) refl (has-below set 64 starts-here b (omega arith))) ∙ sends set set i j d a s (chosen set) refl q)
 
 -- tables of rows are settled by their cells
 rows-same : (f g : ℕ → ℕ → ℕ) (n m : ℕ) → ((j d : ℕ) → d < n → f j d ≡ g j d) → rows f n m ≡ rows g n m

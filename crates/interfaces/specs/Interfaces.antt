@@ -9,7 +9,7 @@ use Rattle.rules.specs.NextHops.{has}
 use Rattle.rules.specs.Entries.{starts-here, entry-by, code, discard}
 use Rattle.rules.specs.Answers.{Answer, answered, refused-with, IsNumber}
 use Rattle.rules.specs.InterfacesQuestion.{InterfacesInputs, interfaces-answer, interfaces-after}
-use Rattle.entries.specs.Entries.{rules-by}
+use Rattle.entries.specs.Entries.{pipo}
 use Rattle.interfaces.specs.declared.Writing.{Writing}
 use Rattle.interfaces.specs.declared.Writing.the-variants.{Written, Refused}
 
@@ -33,7 +33,7 @@ Writes q r out = (writing-numbers r ≡ interfaces-answer q) × Numbered r × (o
 
 -- the code of router i's entry for previous hop j and destination d, by its set for d
 unfoldable pub code-by : List ℕ → ℕ → ℕ → ℕ → ℕ
-code-by sets i j d = code (entry-by (rules-by (getD sets d 0)) i j d)
+code-by sets i j d = code (entry-by (pipo (getD sets d 0)) i j d)
 
 -- the codes of row 255, for each of 64 destinations
 unfoldable pub start-codes : List ℕ → ℕ → List ℕ

@@ -55,7 +55,7 @@ fn start_codes(sets: &[u64; 64], router: u8) -> [u8; 64]
     let mut codes = no_codes();
     let mut d = 0;
     while d < 64 {
-        codes[d] = code(decide(sets[d], router, STARTS_HERE, d as u8));
+        codes[d] = code(decide(sets[d], sets[d], router, STARTS_HERE, d as u8));
         d += 1;
     }
     codes

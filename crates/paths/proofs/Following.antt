@@ -22,7 +22,7 @@ use Rattle.rules.proofs.Sets.{member-below}
 use Rattle.rules.proofs.Entries.{home-delivers}
 use Rattle.entries.specs.declared.Entry.{Entry as EntryHere}
 use Rattle.entries.specs.declared.Entry.the-variants.{Deliver, Discard, NoRoute as NoRoute′, Forward}
-use Rattle.entries.specs.Entries.{entry-told, rules-by}
+use Rattle.entries.specs.Entries.{entry-told, pipo}
 use Rattle.paths.specs.declared.Outcome.the-variants.{Delivered, Discarded, NoRoute, Lost}
 use Rattle.paths.specs.declared.Ending.{Ending}
 use Rattle.paths.specs.Following.{carriers, numbers-from, rules-over, site-over, outcome-case, ending-after, written, ending-word, ending-in, Standing, arriving, leaving, Arrives, Leaves, Lent, path-over}
@@ -46,11 +46,11 @@ module _ (guides views : List ℕ) (d i j hops : ℕ) where
   found-home e = sym (home-delivers _ i j d e)
 
   module _ (b : i < 64) (r : EntryHere) where
-    pub found-new : getD views hops 0 ≡ 1 → entry-told r ≡ entry-by (rules-by (getD guides (64 + i) 0)) i j d → entry-told r ≡ found
+    pub found-new : getD views hops 0 ≡ 1 → entry-told r ≡ entry-by (pipo (getD guides (64 + i) 0)) i j d → entry-told r ≡ found
     unfolding entry-by rules-over listed site-over
     found-new e q = rw (e, in-part guides 64 i b) q
 
-    pub found-old : getD views hops 0 ≢ 1 → entry-told r ≡ entry-by (rules-by (getD guides (0 + i) 0)) i j d → entry-told r ≡ found
+    pub found-old : getD views hops 0 ≢ 1 → entry-told r ≡ entry-by (pipo (getD guides (0 + i) 0)) i j d → entry-told r ≡ found
     unfolding entry-by rules-over listed site-over
     found-old e q = rw (ne-eqb (getD views hops 0) 1 e, in-part guides 0 i b) q
 

@@ -11,7 +11,7 @@ use Rattle.rules.specs.Paths.{Outcome, delivered, discarded, unrouted, lost, Pa
 use Rattle.tables.specs.declared.Outline.{Outline}
 use Rattle.webs.specs.Webs.{web-at, web-weight}
 use Rattle.search.specs.Search.{costs-from, cost-at, hops-over}
-use Rattle.entries.specs.Entries.{rules-by}
+use Rattle.entries.specs.Entries.{pipo}
 use Rattle.paths.specs.declared.Outcome.{Outcome as OutcomeHere}
 use Rattle.paths.specs.declared.Outcome.the-variants.{Delivered, Discarded, NoRoute, Lost}
 use Rattle.paths.specs.declared.Ending.{Ending}
@@ -36,9 +36,9 @@ numbers-from at guides = take 64 (drop at guides)
 -- each router goes by its own set
 unfoldable pub rules-over : List ℕ → Rules
 rules-over sets = record {
-  has-route = λ i. rules-by (getD sets i 0) .has-route i;
-  discards = λ i j. rules-by (getD sets i 0) .discards i j;
-  hop = λ i j. rules-by (getD sets i 0) .hop i j;
+  has-route = λ i. pipo (getD sets i 0) .has-route i;
+  discards = λ i j. pipo (getD sets i 0) .discards i j;
+  hop = λ i j. pipo (getD sets i 0) .hop i j;
 }
 
 -- what a packet for d meets, whatever the guides hold

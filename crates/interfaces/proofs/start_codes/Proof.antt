@@ -29,6 +29,12 @@ mul-decide c = omega arith
 element-copy-out-decide : tie.Need-element-copy-out-decide Inv-loop μ-loop
 element-copy-out-decide c = omega arith
 
+mul-decide-2 : tie.Need-mul-decide-2 Inv-loop μ-loop
+mul-decide-2 c = omega arith
+
+element-copy-out-decide-2 : tie.Need-element-copy-out-decide-2 Inv-loop μ-loop
+element-copy-out-decide-2 c = omega arith
+
 cast-decide : tie.Need-cast-decide Inv-loop μ-loop
 cast-decide c = omega arith
 
@@ -48,7 +54,7 @@ loop-less : tie.Need-loop-less Inv-loop μ-loop
 loop-less c = simp length-set (omega arith)
 
 loop-again : tie.Need-loop-again Inv-loop μ-loop
-loop-again c = one-filled _ _ _ _ (c .before .before .before .before .loop .inv) _ (omega arith) (start-code _ _ _ _ _ (c .before .decide .ensures) (c .code .ensures))
+loop-again c = one-filled _ _ _ _ (c .before .before .before .before .before .loop .inv) _ (omega arith) (start-code _ _ _ _ _ (c .before .decide .ensures) (c .code .ensures))
 
 returns : tie.Need-returns Inv-loop μ-loop
 returns c = whole-codes _ _ _ _ _ (c .before .before .no-codes .ensures) (c .before .loop .inv) (c .loop-test .left)
@@ -63,6 +69,8 @@ start-codes-spec =
     loop-holds
     mul-decide
     element-copy-out-decide
+    mul-decide-2
+    element-copy-out-decide-2
     cast-decide
     decide-requires
     code-requires

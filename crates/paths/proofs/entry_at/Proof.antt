@@ -11,38 +11,56 @@ returns c = found-home _ _ _ _ _ _ (c .if1 .taken)
 element-copy-out-if2 : tie.Need-element-copy-out-if2
 element-copy-out-if2 c = search needs
 
-add-decide : tie.Need-add-decide
-add-decide c = search needs
+add-set : tie.Need-add-set
+add-set c = search needs
 
-mul-decide : tie.Need-mul-decide
-mul-decide c = search needs
+mul-set : tie.Need-mul-set
+mul-set c = search needs
 
-element-copy-out-decide : tie.Need-element-copy-out-decide
-element-copy-out-decide c = search needs
+element-copy-out-set : tie.Need-element-copy-out-set
+element-copy-out-set c = search needs
+
+add-dropped : tie.Need-add-dropped
+add-dropped c = search needs
+
+mul-dropped : tie.Need-mul-dropped
+mul-dropped c = search needs
+
+element-copy-out-dropped : tie.Need-element-copy-out-dropped
+element-copy-out-dropped c = search needs
 
 decide-requires : tie.Need-decide-requires
 decide-requires c κs = search needs
 
 returns-2 : tie.Need-returns-2
 returns-2 c =
-    let m = c .before .before in
+    let m = c .before .before .before in
     found-new _ _ _ _ _ _ (m .before .before .before .pre .0) _ (m .if2 .taken) (c .decide .ensures)
 
-add-decide-2 : tie.Need-add-decide-2
-add-decide-2 c = search needs
+add-set-2 : tie.Need-add-set-2
+add-set-2 c = search needs
 
-mul-decide-2 : tie.Need-mul-decide-2
-mul-decide-2 c = search needs
+mul-set-2 : tie.Need-mul-set-2
+mul-set-2 c = search needs
 
-element-copy-out-decide-2 : tie.Need-element-copy-out-decide-2
-element-copy-out-decide-2 c = search needs
+element-copy-out-set-2 : tie.Need-element-copy-out-set-2
+element-copy-out-set-2 c = search needs
+
+add-dropped-2 : tie.Need-add-dropped-2
+add-dropped-2 c = search needs
+
+mul-dropped-2 : tie.Need-mul-dropped-2
+mul-dropped-2 c = search needs
+
+element-copy-out-dropped-2 : tie.Need-element-copy-out-dropped-2
+element-copy-out-dropped-2 c = search needs
 
 decide-requires-2 : tie.Need-decide-requires-2
 decide-requires-2 c κs = search needs
 
 returns-3 : tie.Need-returns-3
 returns-3 c =
-    let m = c .before .before in
+    let m = c .before .before .before in
     found-old _ _ _ _ _ _ (m .before .before .before .pre .0) _ (m .if2 .left) (c .decide2 .ensures)
 
 pub entry-at-spec : {M : Type 1} → statement M
@@ -51,13 +69,19 @@ entry-at-spec =
     (tie.spec
     returns
     element-copy-out-if2
-    add-decide
-    mul-decide
-    element-copy-out-decide
+    add-set
+    mul-set
+    element-copy-out-set
+    add-dropped
+    mul-dropped
+    element-copy-out-dropped
     decide-requires
     returns-2
-    add-decide-2
-    mul-decide-2
-    element-copy-out-decide-2
+    add-set-2
+    mul-set-2
+    element-copy-out-set-2
+    add-dropped-2
+    mul-dropped-2
+    element-copy-out-dropped-2
     decide-requires-2
     returns-3)
