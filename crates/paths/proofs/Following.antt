@@ -6,12 +6,12 @@ use mathlib.Core.Logic.{_≢_}
 use mathlib.Core.Bool.{Bool, true, false}
 use mathlib.Core.List.{List, [], _∷_, _++_}
 use Prim.Native.Nat.{ℕ, zero, suc, _+_, _-_, _≤_, _<_}
-use native.Mathlib.Nat.{add-zero}
+use native.Mathlib.Nat.{zero-add, add-zero}
 use native.Mathlib.Numerals.{add-one}
 use native.Mathlib.Omega.{arith}
 use lib.Dec.{eqb}
-use lib.ListN.{length, getD, take, drop, set, replicate}
-use lib.Seq.{getD-drop, getD-take, length-sets, sets, sets-eq, take-append-seam}
+use lib.ListN.{length, getD, take, drop, set, replicate, length-append, length-drop}
+use lib.Seq.{getD-drop, getD-take, sets, sets-eq, take-append-seam}
 use borrow.Author.Tests.{ne-eqb}
 use Rattle.rules.specs.Words.{pick}
 use Rattle.rules.specs.NextHops.{has}
@@ -205,19 +205,13 @@ module _ (site : Site) (choice : Choice) (joined : (i k : ℕ) → i < 64 → si
 
 -- ---- one packet
 
--- its trace keeps the 64 places that it has
-pub places-kept : (guides views : List ℕ) (d i j left : ℕ) (blank : List ℕ) (r : ℕ) (visited : List ℕ) → blank ≡ replicate 64 0
-    → Arrives guides views d i j 0 left blank r visited → 64 ≡ length visited
-places-kept guides views d i j left blank r visited z (p, v) =
-    sym (ap length v ∙ length-sets blank 0 (arriving guides views d i j 0 left .trace) ∙ ap length z)
-
 -- behind a list zeros change nothing
 padded : (xs zs : List ℕ) → ((k : ℕ) → getD zs k 0 ≡ 0) → (m : ℕ) → getD (xs ++ zs) m 0 ≡ getD xs m 0
 padded [] zs h m = h m
 padded (x ∷ xs) zs h zero = refl
 padded (x ∷ xs) zs h (suc m) = padded xs zs h m
 
-module _ (guides : List ℕ) (routers s d : ℕ) (views trace : List ℕ) (lent : Lent guides routers s views trace) where
+module _ (guides : List ℕ) (routers s d : ℕ) (views blank : List ℕ) (lent : Lent guides routers s views blank) where
   abbrev path : Path
   path = path-over guides routers s d views
 
@@ -230,7 +224,7 @@ module _ (guides : List ℕ) (routers s d : ℕ) (views trace : List ℕ) (lent 
 
   -- the list holds the first N − 1 views and zeros behind them
   module _ (none list : List ℕ) (z : none ≡ replicate 64 0) (l : list ≡ take (routers - 1) views ++ drop (routers - 1) none)
-      (word : ℕ) (blank visited : List ℕ) (y : blank ≡ replicate 64 0) (a : Arrives guides list d s starts-here 0 (routers - 1) blank word visited) where
+      (word : ℕ) (visited : List ℕ) (a : Arrives guides list d s starts-here 0 (routers - 1) blank word visited) where
     same-byte : (m : ℕ) → getD list m 0 ≡ getD (take (routers - 1) views) m 0
     same-byte m =
         ap (λ v. getD v m 0) l
@@ -242,37 +236,40 @@ module _ (guides : List ℕ) (routers s d : ℕ) (views trace : List ℕ) (lent 
     unfolding path-over path-in listed
     followed = ap (λ choice. follow (site-over d guides) choice (routers - 1) 0 s starts-here) (λ z i m. pick (eqb (same-byte m z) 1) new-view old-view)
 
-    long : 64 ≡ length visited
-    long = places-kept guides list d s starts-here (routers - 1) blank word visited y a
+    pub told-ending : (e : Ending) → e ≡ ending-in word → e ≡ ending-after 0 path
+    unfolding ending-after
+    told-ending e q =
+        q
+        ∙ ap ending-in (a .0 ∙ ap (λ t. ending-word (ending-after 0 t)) followed)
+        ∙ ending-again (ending-after 0 path) (omega (arith, short-path .inside)) (omega (arith, short-path .within, lent .few))
 
-    module _ (e : Ending) (q : e ≡ ending-in word) where
-      pub told-ending : e ≡ ending-after 0 path
-      unfolding ending-after
-      told-ending =
-          q
-          ∙ ap ending-in (a .0 ∙ ap (λ t. ending-word (ending-after 0 t)) followed)
-          ∙ ending-again (ending-after 0 path) (omega (arith, short-path .inside)) (omega (arith, short-path .within, lent .few))
+    pub told-visited : visited ≡ written path blank
+    told-visited =
+        a .1
+        ∙ ap (λ t. sets blank 0 (t .trace)) followed
+        ∙ sets-eq (path .trace) blank 0 (omega (arith, short-path .counted, short-path .within, lent .some, lent .few, lent .places))
+        ∙ ap (λ k. path .trace ++ drop k blank) (zero-add (length (path .trace)))
 
-      -- one router more than hops
-      told-hops : e .hops + 1 ≡ length (path .trace)
-      unfolding ending-after
-      told-hops = omega (arith, ap (λ (x : Ending). x .hops) told-ending, short-path .counted)
+  -- it has ended
+  module _ (e : Ending) (q : e ≡ ending-after 0 path) (visited : List ℕ) (w : visited ≡ written path blank) where
+    -- after fewer hops than there are routers, whose places are still 64
+    pub few-hops : e .hops < routers
+    unfolding ending-after
+    few-hops = omega (arith, ap (λ (x : Ending). x .hops) q, short-path .within, lent .some)
 
-      -- as many routers as are told, and the trace has room for them
-      pub visited-there : (e .hops + 1 ≤ length visited) × (e .hops + 1 ≤ length trace)
-      visited-there =
-          let s = short-path in
-          (omega (arith, long, told-hops, s .counted, s .within, lent .some, lent .few), omega (arith, told-hops, s .counted, s .within, lent .some, lent .room))
+    pub places-kept : 64 ≡ length visited
+    places-kept =
+        let s = short-path in
+        sym (ap length w ∙ length-append (path .trace) _ ∙ omega (arith, length-drop (length (path .trace)) blank, s .counted, s .within, lent .some, lent .few, lent .places))
 
-      -- they are the visited ones
-      front : take (length (path .trace)) visited ≡ path .trace
-      front =
-          ap (take (length (path .trace)))
-          (a .1
-          ∙ ap (λ t. sets blank 0 (t .trace)) followed
-          ∙ sets-eq (path .trace) blank 0 (omega (arith, ap length y, long, told-hops, visited-there .0)))
-          ∙ take-append-seam (path .trace) _
+    -- one router more than hops
+    told-hops : e .hops + 1 ≡ length (path .trace)
+    unfolding ending-after
+    told-hops = omega (arith, ap (λ (x : Ending). x .hops) q, short-path .counted)
 
-      -- handed over, they stand in front of the trace
-      pub told-trace : (after : List ℕ) → after ≡ take (e .hops + 1) visited ++ drop (e .hops + 1) trace → after ≡ written path trace
-      told-trace after h = h ∙ ap (λ k. take k visited ++ drop k trace) told-hops ∙ ap (λ t. t ++ drop (length (path .trace)) trace) front
+    -- handed over, the visited routers stand in front of a trace
+    pub told-trace : (trace : List ℕ) → take (e .hops + 1) visited ++ drop (e .hops + 1) trace ≡ written path trace
+    told-trace trace = ap (λ k. take k visited ++ drop k trace) told-hops ∙ ap (λ t. t ++ drop (length (path .trace)) trace) front
+      where
+        front : take (length (path .trace)) visited ≡ path .trace
+        front = ap (take (length (path .trace))) w ∙ take-append-seam (path .trace) _

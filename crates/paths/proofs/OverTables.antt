@@ -8,7 +8,7 @@ use Prim.Native.Nat.{ℕ, _-_, _<_}
 use native.Mathlib.Decide.{decLt}
 use native.Mathlib.Omega.{arith}
 use lib.Dec.{eqb}
-use lib.ListN.{getD, take}
+use lib.ListN.{length, getD, take, replicate}
 use lib.Seq.{getD-take}
 use Rattle.rules.specs.Words.{_<?_, pick, below}
 use Rattle.rules.specs.Layout.{Obeys}
@@ -18,7 +18,7 @@ use Rattle.rules.specs.Costs.{cost}
 use Rattle.rules.specs.NextHops.{has, next-hops}
 use Rattle.rules.specs.Entries.{entry-by, rules-of, entry}
 use Rattle.rules.specs.Paths.{View, old-view, new-view, by, Choice, listed, Path, Site, entry-at, site-of, path-in}
-use Rattle.rules.specs.PathQuestion.{PathInputs, packet-of, path-of, PathAsked}
+use Rattle.rules.specs.PathQuestion.{PathInputs, packet-of, path-of}
 use Rattle.rules.specs.Demand1.{IsAccepted}
 use Rattle.rules.specs.Demand3.{Follows, delivers, discards, has-none, loses, crosses, Loopless, Demand3}
 use Rattle.rules.proofs.Basics.{value-at, value-behind}
@@ -36,6 +36,7 @@ use Rattle.webs.proofs.Accepted.{accepted-near}
 use Rattle.search.specs.Search.{costs-from, cost-at, hops-over}
 use Rattle.search.proofs.OfTable.{found-hops}
 use Rattle.entries.proofs.Entries.{by-set}
+use Rattle.paths.specs.PathAnswers.{Followable}
 use Rattle.paths.specs.Following.{rules-over, site-over, sets-of, near-of, guides-to, Lent, path-over}
 use Rattle.paths.proofs.Guides.{guides-fit, view-part, links-part}
 
@@ -86,23 +87,22 @@ module _ (site site′ : Site) (choice : Choice)
 
 -- ---- a packet that is asked for rightly, over the guides of both tables
 
-module _ (q : PathInputs) (asked : PathAsked q) (o n : Outline) (p : o ≡ outline-of (q .old)) (r : n ≡ outline-of (q .new))
-    (guides : List ℕ) (g : guides ≡ guides-to (q .old) o (q .new) n (q .destination)) where
+module _ (q : PathInputs) (o n : Outline) (𝓕 : Followable q o n) (guides : List ℕ) (g : guides ≡ guides-to (q .old) o (q .new) n (q .destination)) where
   same-n : n .routers ≡ says (q .new) .routers
-  same-n = own-routers (q .new) n r
+  same-n = own-routers (q .new) n (𝓕 .new-outline)
 
   new-obeys : Obeys (says (q .new))
-  new-obeys = obeys (q .new) (asked .together .new-accepted)
+  new-obeys = obeys (q .new) (𝓕 .together .new-accepted)
 
   -- what following it asks for
-  pub lent : Lent guides (n .routers) (q .source) (q .views) (q .trace)
-  lent = record {
+  pub lent : (blank : List ℕ) → blank ≡ replicate 64 0 → Lent guides (n .routers) (q .source) (q .views) blank
+  lent blank z = record {
     fit = guides-fit (q .old) o (q .new) n (q .destination) guides g;
-    some = omega (arith, same-n, asked .numbers .source-below);
+    some = omega (arith, same-n, 𝓕 .numbers .source-below);
     few = omega (arith, same-n, new-obeys .few-routers);
-    source = omega (arith, asked .numbers .source-below, new-obeys .few-routers);
-    views-enough = omega (arith, same-n, asked .views .enough);
-    room = omega (arith, same-n, asked .room);
+    source = omega (arith, 𝓕 .numbers .source-below, new-obeys .few-routers);
+    views-enough = omega (arith, same-n, 𝓕 .views .enough);
+    places = ap length z;
   }
 
   abbrev site : Site
@@ -116,18 +116,18 @@ module _ (q : PathInputs) (asked : PathAsked q) (o n : Outline) (p : o ≡ outli
       ∙ go (choice i m)
     where
       b : q .destination < 64
-      b = omega (arith, asked .numbers .destination-below, new-obeys .few-routers)
+      b = omega (arith, 𝓕 .numbers .destination-below, new-obeys .few-routers)
 
       go : (v : View) → entry-by (rules-over (by v (sets-of (q .old) o (q .destination)) (sets-of (q .new) n (q .destination)))) i j (q .destination)
           ≡ entry-by (rules-of (by v (says (q .old)) (says (q .new))) (q .destination)) i j (q .destination)
-      go old-view = own-entry (q .old) o (q .destination) (asked .together .old-accepted) p b i j
-      go new-view = own-entry (q .new) n (q .destination) (asked .together .new-accepted) r b i j
+      go old-view = own-entry (q .old) o (q .destination) (𝓕 .together .old-accepted) (𝓕 .old-outline) b i j
+      go new-view = own-entry (q .new) n (q .destination) (𝓕 .together .new-accepted) (𝓕 .new-outline) b i j
 
   carries : (i k : ℕ) → site .carries i k ≡ site-of (packet-of q) .carries i k
   unfolding site-over site-of
   carries i k =
       ap (λ l. has (getD l i 0) k) (links-part (q .old) o (q .new) n (q .destination) guides g)
-      ∙ own-links (q .new) n (q .destination) (asked .together .new-accepted) r i k
+      ∙ own-links (q .new) n (q .destination) (𝓕 .together .new-accepted) (𝓕 .new-outline) i k
 
   -- the first N − 1 views, and no other is asked for
   abbrev first-views : Choice
@@ -139,7 +139,7 @@ module _ (q : PathInputs) (asked : PathAsked q) (o n : Outline) (p : o ≡ outli
 
   -- demand 3, whatever the choice
   demand3 : (choice : Choice) → Demand3 (says (q .new)) (q .source) (q .destination) (site-of (packet-of q)) choice
-  demand3 choice = path-proved q .demand3 (asked .together) (asked .numbers) choice .general
+  demand3 choice = path-proved q .demand3 (𝓕 .together) (𝓕 .numbers) choice .general
 
   loopless : Loopless (says (q .new) .routers) (q .source) (site-of (packet-of q)) first-views (path-of q)
   unfolding path-of

@@ -134,14 +134,14 @@ module _ (guides views : List ℕ) (d : ℕ) where
 
 -- ---- one packet
 
--- the guides are 64-bit numbers, the source is one of 64 routers, and there are N − 1 views and room for N visited routers
-pub record Lent (guides : List ℕ) (routers s : ℕ) (views trace : List ℕ) : Type 0 where
+-- the guides are 64-bit numbers, the source is one of 64 routers, and there are N − 1 views and 64 places for visited routers
+pub record Lent (guides : List ℕ) (routers s : ℕ) (views visited : List ℕ) : Type 0 where
   pub fit : (k : ℕ) → getD guides k 0 < 2 ^ 64
   pub some : 0 < routers
   pub few : routers ≤ 64
   pub source : s < 64
   pub views-enough : routers - 1 ≤ length views
-  pub room : routers ≤ length trace
+  pub places : length visited ≡ 64
 
 -- the path over the guides from s to d, by the first N − 1 views; a router that decides behind them uses the old view
 unfoldable pub path-over : List ℕ → ℕ → ℕ → ℕ → List ℕ → Path

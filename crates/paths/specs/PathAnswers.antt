@@ -1,10 +1,15 @@
 -- What the path question answers, in document 01's numbers, and what it writes.
 use mathlib.Core.Path.{_≡_}
-use mathlib.Core.List.{List}
-use Prim.Native.Nat.{ℕ}
-use Rattle.rules.specs.Words.{_=?_, pick}
+use mathlib.Core.List.{List, _++_}
+use Prim.Native.Nat.{ℕ, _+_}
+use lib.ListN.{length, take, drop}
+use Rattle.rules.specs.Words.{_=?_, _<?_, pick}
+use Rattle.rules.specs.Table.{says}
 use Rattle.rules.specs.Answers.{Answer, answered, refused-with, IsNumber}
-use Rattle.rules.specs.PathQuestion.{PathInputs, Ending, no-ending, path-answer, trace-after}
+use Rattle.rules.specs.PairQuestion.{AcceptedTogether}
+use Rattle.rules.specs.PathQuestion.{PathInputs, Ending, no-ending, path-answer, trace-after, PathNumbers, GoodViews}
+use Rattle.tables.specs.declared.Outline.{Outline}
+use Rattle.tables.specs.Readings.{outline-of}
 use Rattle.paths.specs.declared.Outcome.{Outcome}
 use Rattle.paths.specs.declared.Outcome.the-variants.{Delivered, Discarded, NoRoute, Lost}
 use Rattle.paths.specs.declared.Ending.{Ending as EndingHere}
@@ -29,6 +34,20 @@ ending-numbers e = record { outcome = code-of (e .outcome); router = e .router; 
 unfoldable pub path-answer-numbers : PathAnswer → Answer Ending
 path-answer-numbers (Ended e) = answered (ending-numbers e)
 path-answer-numbers (Refused number table place) = refused-with no-ending number table place
+
+-- a packet has ended: 10 refuses a trace that has no room for n routers, else its ending is told, and one router more than its hops is written
+abbrev pub Tells : EndingHere → ℕ → List ℕ → List ℕ → PathAnswer → List ℕ → Type 0
+Tells e n visited trace r after =
+    (r ≡ pick (length trace <? n) (Refused 10 0 0) (Ended e))
+    × (after ≡ pick (length trace <? n) trace (take (e .hops + 1) visited ++ drop (e .hops + 1) trace))
+
+-- the tables, with these outlines, go together, and neither 9 nor 11 refuses
+pub record Followable (q : PathInputs) (o n : Outline) : Type 0 where
+  pub together : AcceptedTogether (q .old) (q .new)
+  pub old-outline : o ≡ outline-of (q .old)
+  pub new-outline : n ≡ outline-of (q .new)
+  pub numbers : PathNumbers (says (q .new) .routers) q
+  pub views : GoodViews (says (q .new) .routers) (q .views)
 
 -- a refusal has a number
 abbrev pub Numbered : PathAnswer → Type 0

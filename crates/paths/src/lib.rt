@@ -6,10 +6,10 @@ ghost use lib.ListN.{length, take, drop, set, replicate};
 ghost use Rattle.rules.specs.Words.{_≤?_, every};
 ghost use Rattle.rules.specs.Paths.{entry-at, listed};
 ghost use Rattle.rules.specs.Answers.{number-in};
-ghost use Rattle.rules.specs.PathQuestion.{bad-views, bad-numbers, path-refusals};
+ghost use Rattle.rules.specs.PathQuestion.{bad-views, bad-numbers, packet-refusals};
 ghost use Rattle.entries.specs.Entries.{entry-told};
 ghost use Rattle.paths.specs.Following.{laid, guided, guides-to, site-over, path-over, ending-after, written, ending-word, ending-in, Standing, Arrives, Leaves, Lent};
-ghost use Rattle.paths.specs.PathAnswers.{outcome-of, Codes, AnswersPath};
+ghost use Rattle.paths.specs.PathAnswers.{outcome-of, Codes, Tells, Followable, AnswersPath};
 use entries::Entry;
 use entries::STARTS_HERE;
 use entries::decide;
@@ -255,25 +255,24 @@ fn hand_over(n: usize, from: &[u8], to: &mut [u8])
     }
 }
 
-// One packet is followed by the first N - 1 views; the trace is written when it has ended.
+// One packet is followed by the first N - 1 views, and the visited routers are written one after the other.
 fn follow_packet(
     guides: &Guides,
     routers: u8,
     source: u8,
     destination: u8,
     views: &[u8],
-    trace: &mut [u8],
+    visited: &mut [u8; 64],
 ) -> Ending
-    requires { ⌜ Lent (now guides) routers source (now views) (now trace) ⌝ }
+    requires { ⌜ Lent (now guides) routers source (now views) (now visited) ⌝ }
     ensures { λ r. ⌜
         (r ≡ ending-after 0 (path-over (now (guides .entry)) routers source destination (now (views .entry))))
-        × (now (trace .exit) ≡ written (path-over (now (guides .entry)) routers source destination (now (views .entry))) (now (trace .entry)))
+        × (now (visited .exit) ≡ written (path-over (now (guides .entry)) routers source destination (now (views .entry))) (now (visited .entry)))
         ⌝ }
 {
     let left = routers - 1;
     let mut list = no_bytes();
     hand_over(left as usize, views, &mut list);
-    let mut visited = no_bytes();
     let word = arrive(
         guides,
         &list,
@@ -282,11 +281,26 @@ fn follow_packet(
         STARTS_HERE,
         0,
         left,
-        &mut visited,
+        visited,
     );
-    let ending = ending_in(word);
-    hand_over((ending.hops as usize) + 1, &visited, trace);
-    ending
+    ending_in(word)
+}
+
+// The trace gets the routers that a packet visited, one more than its hops; 10 where it has no room for N.
+fn tell(ending: Ending, routers: u8, visited: &[u8], trace: &mut [u8]) -> PathAnswer
+    requires { ⌜ (ending .hops < routers) × (routers ≤ length (now visited)) ⌝ }
+    ensures { λ r. ⌜ Tells ending routers (now (visited .entry)) (now (trace .entry)) r (now (trace .exit)) ⌝ }
+{
+    let found = (ending.hops as usize) + 1;
+    if trace.len() < (routers as usize) {
+        return PathAnswer::Refused {
+            number: 10,
+            table: 0,
+            place: 0,
+        };
+    }
+    hand_over(found, visited, trace);
+    PathAnswer::Ended(ending)
 }
 
 // Whether each byte is 0 or 1.
@@ -325,10 +339,10 @@ fn numbers_are_bad(routers: u8, source: u64, destination: u64) -> bool
     (routers as u64) <= destination
 }
 
-// The first of 9, 11 and 10 that refuses, of tables of so many routers, by whether a number is bad, with so many bytes of room for the trace; 0 for none.
-fn path_number(routers: u8, bad: bool, views: &[u8], room: usize) -> u8
+// The first of 9 and 11 that refuses, of tables of so many routers, by whether a number is bad; 0 for none.
+fn packet_number(routers: u8, bad: bool, views: &[u8]) -> u8
     requires { ⌜ 0 < routers ⌝ }
-    ensures { λ r. ⌜ r ≡ number-in (path-refusals routers bad (now (views .entry)) room) ⌝ }
+    ensures { λ r. ⌜ r ≡ number-in (packet-refusals routers bad (now (views .entry))) ⌝ }
 {
     if bad {
         return 9;
@@ -336,10 +350,41 @@ fn path_number(routers: u8, bad: bool, views: &[u8], room: usize) -> u8
     if views_are_bad(views, routers as usize) {
         return 11;
     }
-    if room < (routers as usize) {
-        return 10;
-    }
     0
+}
+
+// The path of one packet in two tables that go together, where neither 9 nor 11 refuses.
+fn path_in(
+    old: &[u8],
+    o: Outline,
+    new: &[u8],
+    n: Outline,
+    source: u8,
+    destination: u8,
+    views: &[u8],
+    trace: &mut [u8],
+) -> PathAnswer
+    requires { ⌜ Followable (record {
+      old = now old;
+      new = now new;
+      source = source;
+      destination = destination;
+      views = now views;
+      trace = now trace;
+    }) o n ⌝ }
+    ensures { λ r. ⌜ AnswersPath (record {
+      old = now (old .entry);
+      new = now (new .entry);
+      source = source;
+      destination = destination;
+      views = now (views .entry);
+      trace = now (trace .entry);
+    }) r (now (trace .exit)) ⌝ }
+{
+    let guides = guides_to(old, o, new, n, destination);
+    let mut visited = no_bytes();
+    let ending = follow_packet(&guides, n.routers, source, destination, views, &mut visited);
+    tell(ending, n.routers, &visited, trace)
 }
 
 // The path of one packet through routers of mixed views. The trace gets the visited routers in order, source first.
@@ -368,7 +413,7 @@ pub fn path(
             new: n,
         } => {
             let bad = numbers_are_bad(n.routers, source, destination);
-            let number = path_number(n.routers, bad, views, trace.len());
+            let number = packet_number(n.routers, bad, views);
             if number != 0 {
                 return PathAnswer::Refused {
                     number,
@@ -376,9 +421,16 @@ pub fn path(
                     place: 0,
                 };
             }
-            let to = destination as u8;
-            let guides = guides_to(old, o, new, n, to);
-            PathAnswer::Ended(follow_packet(&guides, n.routers, source as u8, to, views, trace))
+            path_in(
+                old,
+                o,
+                new,
+                n,
+                source as u8,
+                destination as u8,
+                views,
+                trace,
+            )
         }
         Pairing::Refused {
             number,

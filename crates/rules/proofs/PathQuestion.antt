@@ -24,7 +24,7 @@ use Rattle.rules.proofs.Answers.{tables-first, listed-numbers, outputs-
 use Rattle.rules.proofs.PairQuestion.{asks-pair}
 
 -- what 9 asks for
-asks-numbers : (n : ℕ) (q : PathInputs) → (bad-numbers n (q .source) (q .destination) ≡ false) ↔ PathNumbers n q
+pub asks-numbers : (n : ℕ) (q : PathInputs) → (bad-numbers n (q .source) (q .destination) ≡ false) ↔ PathNumbers n q
 unfolding bad-numbers
 asks-numbers n q =
     let r = asks-routers n n (q .source) (q .destination) in
@@ -35,7 +35,7 @@ enough-views : (n : ℕ) (views : List ℕ) → (few-views n views ≡ false) �
 unfolding few-views
 enough-views n views = asks-≤ (length views) (n - 1)
 
-asks-views : (n : ℕ) (views : List ℕ) → (bad-views n views ≡ false) ↔ GoodViews n views
+pub asks-views : (n : ℕ) (views : List ℕ) → (bad-views n views ≡ false) ↔ GoodViews n views
 unfolding bad-views
 asks-views n views = (λ e. let (a, b) = r .0 e in record { enough = a; good = b }, λ h. r .1 (h .enough, h .good))
   where

@@ -44,9 +44,13 @@ bad-views n views = few-views n views || not (every (λ v. v ≤? 1) (take (n - 
 unfoldable pub bad-numbers : ℕ → ℕ → ℕ → Bool
 bad-numbers n s d = bad-router n s || bad-router n d
 
--- 9, 11, 10: of tables of n routers, by whether a number is bad, with so many bytes of room for the trace
+-- 9, 11: of tables of n routers, by whether a number is bad
+abbrev pub packet-refusals : ℕ → Bool → List ℕ → List (Line ℕ)
+packet-refusals n bad views = 9 when bad ∷ 11 when bad-views n views ∷ []
+
+-- 9, 11, 10: with so many bytes of room for the trace
 unfoldable pub path-refusals : ℕ → Bool → List ℕ → ℕ → List (Line ℕ)
-path-refusals n bad views room = 9 when bad ∷ 11 when bad-views n views ∷ 10 when (room <? n) ∷ []
+path-refusals n bad views room = packet-refusals n bad views ++ (10 when (room <? n) ∷ [])
 
 -- the packet, and the path that the views of the list give
 abbrev pub packet-of : PathInputs → Packet
