@@ -84,11 +84,13 @@ module _ (q : PathInputs) where
   demand3 𝓐 i choice = demand3-of-path (packet-of q) choice (together 𝓐) (i .source-below) (i .destination-below)
 
 pub path-proved : (q : PathInputs) → PathProved q
-unfolding path-answer path-numbers path-refusals path-of trace-after
+unfolding path-answer path-numbers path-refusals path-of trace-after listed
 path-proved q = record {
   exactly = exactly q;
   asked = asked q;
   refusals = listed-numbers _ (q .old ∷ q .new ∷ []) (path-numbers q) _ _;
+  followed = refl;
+  views-say = λ i n. (λ e. rw e, λ e. rw e);
   trace-held = outputs-hold _ (path-answer q) _ (path-of q .trace) (q .trace) (
       λ e.
       let h = asked q .0 e in

@@ -6,8 +6,8 @@ use mathlib.Core.List.{List, [], _∷_, _++_}
 use Prim.Native.Nat.{ℕ, suc, _-_, _≤_, _<_}
 use lib.ListN.{length, take}
 use Rattle.rules.specs.Words.{_<?_, _≤?_, Line, _when_, every, All}
-use Rattle.rules.specs.Table.{says}
-use Rattle.rules.specs.Paths.{Choice, Packet, Path, listed, outcome-code, path}
+use Rattle.rules.specs.Table.{byte, says}
+use Rattle.rules.specs.Paths.{Choice, Packet, Path, listed, new-view, old-view, outcome-code, path}
 use Rattle.rules.specs.Demand3.{Demand3OfPath, decisions}
 use Rattle.rules.specs.Answers.{Answer, Answered, answer, afterwards, on-tables, bad-router, Case, _unless_, Exactly, RefusedBy, Output}
 use Rattle.rules.specs.PairQuestion.{pair-refusals, pair-cases, AcceptedTogether}
@@ -102,9 +102,15 @@ pub record PathAsked (q : PathInputs) : Type 0 where
   pub room : says (q .new) .routers ≤ length (q .trace)
 
 pub record PathProved (q : PathInputs) : Type 0 where
-  pub exactly : Exactly (path-cases q) no-ending (ending (path-of q)) (path-answer q)
+  pub exactly : Exactly (path-cases q) (record { outcome = 0; router = 0; hops = 0 })
+      (record { outcome = outcome-code (path-of q .outcome); router = path-of q .router; hops = path-of q .hops }) (path-answer q)
   pub asked : Answered (path-answer q) ↔ PathAsked q
-  pub refusals : RefusedBy 1 (8 ∷ 9 ∷ 11 ∷ 10 ∷ []) no-ending (path-answer q)
+  pub refusals : RefusedBy 1 (8 ∷ 9 ∷ 11 ∷ 10 ∷ []) (record { outcome = 0; router = 0; hops = 0 }) (path-answer q)
+  -- the path is that of this packet, by the views of the list: 0 old, 1 new
+  pub followed : path-of q
+      ≡ path (record { old = says (q .old); new = says (q .new); source = q .source; destination = q .destination }) (listed (q .views))
+  pub views-say : (i n : ℕ)
+      → (byte (q .views) n ≡ 0 → listed (q .views) i n ≡ old-view) × (byte (q .views) n ≡ 1 → listed (q .views) i n ≡ new-view)
   -- one router for each one visited, and nothing after the last
   pub trace-held : Output (path-answer q) (suc (path-of q .hops)) (path-of q .trace) (q .trace) (trace-after q)
   -- every router that decides finds its byte in the list
