@@ -9,10 +9,10 @@ use native.Mathlib.Decide.{ℕ-discrete}
 use native.Mathlib.Omega.{arith}
 use lib.Dec.{ltb}
 use lib.ListN.{length, take, drop, length-drop}
-use borrow.Author.Tests.{ltb-false, le-ltb, eq-eqb, ne-eqb}
-use Rattle.rules.specs.Words.{pick}
+use borrow.Author.Tests.{ltb-false, le-ltb, eq-eqb, ne-eqb, not-false}
+use Rattle.rules.specs.Words.{pick, Line, _when_, first_otherwise_, All}
 use Rattle.rules.specs.Layout.{tag-end}
-use Rattle.rules.specs.Table.{byte, two-bytes, Kept, nothing-kept, keep, bad-tag, length-allowed, contents-fit, not-above, too-many, record-in, Step, good, bad, step, Judged, accepted, refused, followed-by, judge-from, judge}
+use Rattle.rules.specs.Table.{byte, two-bytes, Kept, nothing-kept, keep, bad-tag, length-allowed, contents-fit, not-above, too-many, record-in, Step, good, bad, step-refusals, step, Judged, accepted, refused, followed-by, judge-from, judge}
 
 -- ---- one record
 
@@ -38,38 +38,45 @@ pub data Steps (kept : Kept) (place : ℕ) (left : List ℕ) : Step → Type 0 w
   gives : Good kept left → Steps kept place left (good (record-in place left) (place + 3 + size-in left))
   refuses : (number : ℕ) → 1 ≤ number → number ≤ 6 → Steps kept place left (bad number place)
 
+-- Lines of which each gives a number from 1 to 6 at the place: the first that applies refuses, and where none does the other step is given.
+abbrev number-in : Step → ℕ
+number-in (good r end) = 0
+number-in (bad number place) = number
+
+abbrev Refuses : ℕ → Line Step → Type 0
+Refuses place l = (l .gives ≡ bad (number-in (l .gives)) place) × (1 ≤ number-in (l .gives)) × (number-in (l .gives) ≤ 6)
+
+data FirstLine (place : ℕ) (ls : List (Line Step)) (other : Step) : Step → Type 0 where
+  one-applies : (number : ℕ) → 1 ≤ number → number ≤ 6 → FirstLine place ls other (bad number place)
+  none-applies : All (λ l. l .applies ≡ false) ls → FirstLine place ls other other
+
+first-line : (place : ℕ) (ls : List (Line Step)) (other : Step) → All (Refuses place) ls → FirstLine place ls other (first ls otherwise other)
+first-line place [] other h = none-applies tt
+first-line place (l ∷ ls) other ((e, a, b), h) = go (l .applies) refl (first-line place ls other h)
+  where
+    later : l .applies ≡ false → {s : Step} → FirstLine place ls other s → FirstLine place (l ∷ ls) other s
+    later q (one-applies n a b) = one-applies n a b
+    later q (none-applies f) = none-applies (q, f)
+
+    go : (t : Bool) → l .applies ≡ t → FirstLine place ls other (first ls otherwise other) → FirstLine place (l ∷ ls) other (pick t (l .gives) (first ls otherwise other))
+    go true q ih = rw e (one-applies (number-in (l .gives)) a b)
+    go false q ih = later q ih
+
 pub steps : (kept : Kept) (place : ℕ) (left : List ℕ) → Steps kept place left (step kept place left)
 unfolding step
-steps kept place left =
-    go (ltb (length left) 3) refl (bad-tag kept (byte left 0)) refl (length-allowed (byte left 0) (size-in left)) refl
-    (ltb (length left) (3 + size-in left)) refl (contents-fit (kept .routers) (byte left 0) (contents-in left)) refl
-    (not-above kept (byte left 0) (contents-in left)) refl (too-many kept (byte left 0)) refl
+steps kept place left = go (first-line place (step-refusals kept place left) (good (record-in place left) (place + 3 + size-in left)) numbers)
   where
-    go : (a : Bool) → ltb (length left) 3 ≡ a → (b : Bool) → bad-tag kept (byte left 0) ≡ b
-        → (c : Bool) → length-allowed (byte left 0) (size-in left) ≡ c → (d : Bool) → ltb (length left) (3 + size-in left) ≡ d
-        → (f : Bool) → contents-fit (kept .routers) (byte left 0) (contents-in left) ≡ f
-        → (g : Bool) → not-above kept (byte left 0) (contents-in left) ≡ g → (h : Bool) → too-many kept (byte left 0) ≡ h
-        → Steps kept place left (
-        pick a (bad 1 place) (
-        pick b (bad 2 place) (
-        pick (not c) (bad 3 place) (
-        pick d (bad 1 place) (
-        pick (not f) (bad 4 place) (
-        pick g (bad 5 place) (pick h (bad 6 place) (good (record-in place left) (place + 3 + size-in left))))))))
-        )
-    go true p b q c r d s f t g u h v = refuses 1 (omega arith) (omega arith)
-    go false p true q c r d s f t g u h v = refuses 2 (omega arith) (omega arith)
-    go false p false q false r d s f t g u h v = refuses 3 (omega arith) (omega arith)
-    go false p false q true r true s f t g u h v = refuses 1 (omega arith) (omega arith)
-    go false p false q true r false s false t g u h v = refuses 4 (omega arith) (omega arith)
-    go false p false q true r false s true t true u h v = refuses 5 (omega arith) (omega arith)
-    go false p false q true r false s true t false u true v = refuses 6 (omega arith) (omega arith)
-    go false p false q true r false s true t false u false v = gives (record {
+    numbers : All (Refuses place) (step-refusals kept place left)
+    numbers = ((refl, omega arith, omega arith), ((refl, omega arith, omega arith), ((refl, omega arith, omega arith), ((refl, omega arith, omega arith), ((refl, omega arith, omega arith), ((refl, omega arith, omega arith), ((refl, omega arith, omega arith), tt)))))))
+
+    go : {s : Step} → FirstLine place (step-refusals kept place left) (good (record-in place left) (place + 3 + size-in left)) s → Steps kept place left s
+    go (one-applies n a b) = refuses n a b
+    go (none-applies (p, (q, (r, (s, (t, (u, (v, _)))))))) = gives (record {
       headed = ltb-false (length left) 3 p;
       tagged = q;
-      sized = r;
+      sized = not-false (length-allowed (byte left 0) (size-in left)) r;
       whole = ltb-false (length left) (3 + size-in left) s;
-      fits = t;
+      fits = not-false (contents-fit (kept .routers) (byte left 0) (contents-in left)) t;
       above = u;
       few = v;
     })

@@ -3,7 +3,7 @@ use mathlib.Core.Bool.{Bool, true, false, _&&_, _||_, not}
 use mathlib.Core.List.{List, [], _∷_, map}
 use Prim.Native.Nat.{ℕ, zero, suc, _+_, _*_}
 use lib.ListN.{length, getD, take, drop}
-use Rattle.rules.specs.Words.{_=?_, _<?_, _≤?_, pick, _when_, first_otherwise_, every, those}
+use Rattle.rules.specs.Words.{_=?_, _<?_, _≤?_, pick, Line, _when_, first_otherwise_, every, those}
 use Rattle.rules.specs.Layout.{Name, Link, Table, tag-routers, tag-name, tag-link, tag-end}
 
 -- the byte at place k, and the two bytes from there on, high byte first; 0 stands for what is not there
@@ -112,12 +112,12 @@ abbrev pub record-in : ℕ → List ℕ → Record
 record-in place remaining =
     record { place = place; tag = byte remaining 0; contents = take (two-bytes remaining 1) (drop 3 remaining) }
 
--- Within one record the order is: header cut (1), tag (2), length (3), contents cut (1), 4, 5, 6.
-unfoldable pub step : Kept → ℕ → List ℕ → Step
-step kept place remaining =
+-- what refuses it. Within one record the order is: header cut (1), tag (2), length (3), contents cut (1), 4, 5, 6.
+abbrev pub step-refusals : Kept → ℕ → List ℕ → List (Line Step)
+step-refusals kept place remaining =
     let r = record-in place remaining in
     let len = two-bytes remaining 1 in
-    first bad 1 place when (length remaining <? 3)
+    bad 1 place when (length remaining <? 3)
     ∷ bad 2 place when bad-tag kept (r .tag)
     ∷ bad 3 place when not (length-allowed (r .tag) len)
     ∷ bad 1 place when (length remaining <? 3 + len)
@@ -125,7 +125,11 @@ step kept place remaining =
     ∷ bad 5 place when not-above kept (r .tag) (r .contents)
     ∷ bad 6 place when too-many kept (r .tag)
     ∷ []
-    otherwise good r (place + 3 + len)
+
+unfoldable pub step : Kept → ℕ → List ℕ → Step
+step kept place remaining =
+    first step-refusals kept place remaining
+    otherwise good (record-in place remaining) (place + 3 + two-bytes remaining 1)
 
 -- ---- judging
 
