@@ -18,8 +18,8 @@ use Rattle.rules.proofs.Records.{record-at, Fine}
 use Rattle.rules.proofs.AtPlace.{tag-at, size-at, contents-at, rest-at, within}
 use Rattle.rules.proofs.Chains.{Chain, last, next, bytes-of, accepted-as}
 use Rattle.links.specs.Links.{link-at, behind, reader-start, LinksByNumber}
+use Rattle.records.proofs.Tests.{link-long}
 use Rattle.tables.specs.Readings.{links-place, links-start}
-use Rattle.tables.proofs.Tests.{link-long}
 use Rattle.tables.proofs.Places.{links-here, links-later, more-links, same-links, no-links, starts, lower, ends}
 use Rattle.links.proofs.Place.{there, cut, other, at-none, at-one, behind-one, behind-none}
 

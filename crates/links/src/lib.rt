@@ -2,9 +2,9 @@
 ghost use mathlib.Core.Path.{_≡_};
 ghost use Rattle.links.specs.Links.{Tells, TellsByNumber, place-in, reader-start};
 ghost use Rattle.links.specs.Runs.{Made, Moved};
-use tables::LINK;
+use records::LINK;
+use records::joined;
 use tables::Reading;
-use tables::joined;
 use tables::read;
 
 // A link and the place behind its record, or no more.

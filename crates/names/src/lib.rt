@@ -1,5 +1,5 @@
 // The name of a router, handed back as the very bytes inside the caller's table, and the companion question.
-use tables::NAME;
+use records::NAME;
 use tables::Reading;
 use tables::read;
 ghost use mathlib.Core.Path.{_≡_};

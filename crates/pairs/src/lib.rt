@@ -8,9 +8,9 @@ ghost use Rattle.pairs.specs.Fronts.{front-at, differ-by};
 ghost use Rattle.pairs.specs.Pairings.{Pairs};
 use links::NextLink;
 use links::link_at;
+use records::joined;
 use tables::Outline;
 use tables::Reading;
-use tables::joined;
 use tables::read;
 
 // The answer: how many links differ, 0 or 1, and what each table holds; or a number, which table (0 the old, 1 the new) and a place.

@@ -1,5 +1,3 @@
-pub mod Tests
-pub mod Stepping
 pub mod Turns
 pub mod Places
 pub mod Asked

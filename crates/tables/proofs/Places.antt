@@ -14,7 +14,7 @@ use Rattle.rules.specs.Table.{Record, link-of, Kept, accepted, judge, table-of}
 use Rattle.rules.proofs.Records.{at-most-link, tag-order, record-at, Fine}
 use Rattle.rules.proofs.Chains.{Chain, last, next, bytes-of, judged-chain}
 use Rattle.tables.specs.Readings.{links-place}
-use Rattle.tables.proofs.Tests.{link-long, length-end}
+use Rattle.records.proofs.Tests.{link-long, length-end}
 
 -- the links start where the first record behind those of lower tags stands
 pub links-here : (r : Record) (rs : List Record) → tag-link ≤ r .tag → links-place (r ∷ rs) ≡ r .place

@@ -4,37 +4,15 @@ use mathlib.Core.Path.{_≡_, refl, sym, ap}
 use mathlib.Core.List.{List}
 use Prim.Native.Nat.{ℕ}
 use Rattle.rules.specs.Words.{_=?_, pick}
-use Rattle.rules.specs.Table.{Step, good, bad}
 use Rattle.rules.specs.Answers.{Answer}
 use Rattle.rules.specs.ReadQuestion.{Reading}
 use Rattle.rules.specs.Promises.{Settles}
-use Rattle.rules.proofs.Uniqueness.{value-settled, equations-settle, numbers-settle, refused-again}
-use Rattle.tables.specs.Steps.{Joins, step-of, StepsTo}
+use Rattle.rules.proofs.Uniqueness.{numbers-settle, refused-again}
 use Rattle.tables.specs.Readings.{Judging, judged-numbers, Numbered, JudgedTo, reading-numbers, outline-of, Outlined, Reads}
-use Rattle.tables.specs.declared.Kept.{Kept}
-use Rattle.tables.specs.declared.Step.{Step as StepHere}
-use Rattle.tables.specs.declared.Step.the-variants as here
 use Rattle.tables.specs.declared.Judged.{Judged as JudgedHere}
 use Rattle.tables.specs.declared.Judged.the-variants as judged
 use Rattle.tables.specs.declared.Reading.{Reading as ReadingHere}
 use Rattle.tables.specs.declared.Reading.the-variants.{Accepted, Refused}
-
-pub joined-settled : (high low : ℕ) → Settles (Joins high low)
-joined-settled high low = value-settled _
-
--- ---- the reading step
-
-step-from : Step → StepHere
-step-from (good r end) = here.Record (r .tag) end
-step-from (bad number at) = here.Refused number at
-
-step-again : (bytes : List ℕ) (place : ℕ) (x : StepHere) → step-from (step-of bytes place x) ≡ x
-unfolding step-from step-of
-step-again bytes place (here.Record tag end) = refl
-step-again bytes place (here.Refused number at) = refl
-
-pub next-record-settled : (bytes : List ℕ) (place : ℕ) (kept : Kept) → Settles (StepsTo bytes place kept)
-next-record-settled bytes place kept = equations-settle _ _ (step-of bytes place) step-from (step-again bytes place) _
 
 -- ---- judging; a refusal has a number
 

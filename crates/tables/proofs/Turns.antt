@@ -1,4 +1,4 @@
--- Judging, one record at a time: what a turn of judging gives, for a record that stands at a place of a table.
+-- Judging, one record at a time: what is kept behind a record, and what a turn of judging gives, for a record that stands at a place of a table.
 -- Assumes nothing.
 use mathlib.Core.Path.{_≡_, refl, sym, _∙_, ap, ap₂}
 use mathlib.Core.Logic.{_≢_}
@@ -13,20 +13,38 @@ use lib.ListN.{length, drop, length-drop}
 use borrow.Author.Tests.{leb-false, eq-eqb, ne-eqb}
 use Rattle.rules.specs.Words.{pick, those}
 use Rattle.rules.specs.Layout.{tag-routers, tag-link, tag-end}
-use Rattle.rules.specs.Table.{byte, Record, Kept, nothing-kept, keep, length-allowed, too-many, record-in, Step, good, step, Judged, accepted, refused, followed-by, judge-from, judge, routers-of, table-of}
+use Rattle.rules.specs.Table.{byte, Record, key, Kept, nothing-kept, keep, length-allowed, too-many, record-in, Step, good, step, Judged, accepted, refused, followed-by, judge-from, judge, routers-of, table-of}
 use Rattle.rules.proofs.Basics.{pick-t, pick-f}
 use Rattle.rules.proofs.Judging.{size-in, contents-in, Good, Steps, gives, refuses, steps, Judges, stops, ends, goes, judges, judged, judge-stops, judge-ends, judge-goes, judge-judges}
 use Rattle.rules.proofs.AtPlace.{left-behind, whole-there}
 use Rattle.rules.proofs.Records.{tag-order, length-contents}
-use Rattle.tables.specs.Steps.{record-from, step-of, record-with}
-use Rattle.tables.specs.Readings.{refusal-in}
-use Rattle.tables.specs.declared.Step.{Step as StepHere}
-use Rattle.tables.proofs.Step.{enum}
+use Rattle.records.specs.Steps.{record-from, step-of}
+use Rattle.records.specs.declared.Step.{Step as StepHere}
+use Rattle.records.specs.declared.Step.the-variants as here
+use Rattle.records.proofs.Step.{enum}
 use denote.Enum.Declared.{tagOf, declared}
-use Rattle.tables.specs.declared.Step.the-variants as here
+use Rattle.tables.specs.Readings.{record-with, refusal-in}
 use Rattle.tables.specs.declared.Judged.{Judged as JudgedHere}
 use Rattle.tables.specs.declared.Judged.the-variants.{Accepted, Refused}
 use Rattle.tables.proofs.Places.{no-links, more-links, same-links}
+
+-- ---- what is kept behind a record
+
+module _ (kept : Kept) (tag : ℕ) (contents : List ℕ) (last : ℕ) (k : last ≡ key tag contents) where
+  pub kept-link : tag ≡ tag-link
+      → record { routers = kept .routers; tag = tag; last = last; links = kept .links + 1 } ≡ keep kept (record-with tag contents)
+  unfolding keep
+  kept-link e = rw (k, e)
+
+  pub kept-routers : tag ≡ tag-routers
+      → record { routers = byte contents 0; tag = tag; last = last; links = kept .links } ≡ keep kept (record-with tag contents)
+  unfolding keep
+  kept-routers e = rw (k, e, add-zero)
+
+  pub kept-else : tag ≢ tag-link → tag ≢ tag-routers
+      → record { routers = kept .routers; tag = tag; last = last; links = kept .links } ≡ keep kept (record-with tag contents)
+  unfolding keep
+  kept-else l r = rw (ne-eqb tag tag-link l, ne-eqb tag tag-routers r, k, add-zero)
 
 -- ---- what judging tells, by what is kept at the end
 

@@ -8,8 +8,8 @@ use Rattle.rules.specs.Layout.{Bytes, tag-link}
 use Rattle.rules.specs.Table.{Record, Judged, accepted, refused, judge, read, records-of, table-of, says}
 use Rattle.rules.specs.Answers.{Answer, answered, refused-with, IsNumber}
 use Rattle.rules.specs.ReadQuestion.{Reading, no-reading, read-answer}
-use Rattle.tables.specs.declared.Step.{Step as StepHere}
-use Rattle.tables.specs.declared.Step.the-variants as step
+use Rattle.records.specs.declared.Step.{Step as StepHere}
+use Rattle.records.specs.declared.Step.the-variants as step
 use Rattle.tables.specs.declared.Judged.{Judged as JudgedHere}
 use Rattle.tables.specs.declared.Judged.the-variants as judged
 use Rattle.tables.specs.declared.Outline.{Outline}
@@ -45,6 +45,10 @@ Numbered (judged.Refused number place) = IsNumber number
 -- r is what judging answers to these bytes
 abbrev pub JudgedTo : List ℕ → JudgedHere → Type 0
 JudgedTo bytes r = (judged-numbers r ≡ judging-answer (judge bytes)) × Numbered r
+
+-- a record by its tag and contents; its place does not matter to what is kept
+abbrev pub record-with : ℕ → List ℕ → Record
+record-with tag contents = record { place = 0; tag = tag; contents = contents }
 
 -- the refusal that a step gave; no other step is asked for one
 unfoldable pub refusal-in : StepHere → JudgedHere

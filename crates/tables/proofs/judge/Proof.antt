@@ -6,7 +6,7 @@ use native.Mathlib.Omega.{arith}
 use lib.ListN.{length}
 use borrow.Author.Needs.{needs}
 use Rattle.rules.specs.Table.{judge}
-use Rattle.tables.specs.Steps.{kept-of}
+use Rattle.records.specs.Steps.{kept-of}
 use Rattle.tables.proofs.Asked.{judged-as}
 use Rattle.tables.proofs.Turns.{Found, found, found-inside, found-length, found-few, judged-of, told-from, told-first, told-refused, told-ended, told-next}
 use Rattle.tables.proofs.judge.Statement.{statement}
@@ -14,7 +14,7 @@ use Rattle.tables.proofs.judge.Tie as tie
 use Rattle.tables.proofs.judge.Reads as reads
 use Rattle.tables.proofs.judge.Lts as lts
 use Rattle.tables.proofs.kept_behind.Reads as kept-behind-reads
-use Rattle.tables.proofs.next_record.Reads as next-record-reads
+use Rattle.records.proofs.next_record.Reads as next-record-reads
 use Rattle.tables.proofs.refusal.Reads as refusal-reads
 
 abbrev Inv-loop : tie.InvT-loop

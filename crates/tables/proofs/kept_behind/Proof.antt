@@ -2,8 +2,8 @@
 -- Assumes nothing.
 use native.Mathlib.Omega.{arith}
 use borrow.Author.Needs.{needs}
-use Rattle.tables.proofs.Tests.{routers-long}
-use Rattle.tables.proofs.Stepping.{kept-link, kept-routers, kept-else}
+use Rattle.records.proofs.Tests.{routers-long}
+use Rattle.tables.proofs.Turns.{kept-link, kept-routers, kept-else}
 use Rattle.tables.proofs.kept_behind.Statement.{statement}
 use Rattle.tables.proofs.kept_behind.Tie as tie
 

@@ -2,7 +2,7 @@
 -- Assumes nothing.
 use native.Mathlib.Omega.{arith}
 use borrow.Author.Needs.{needs}
-use Rattle.tables.proofs.Tests.{link-long, name-long, key-link, key-name, key-else}
+use Rattle.records.proofs.Tests.{link-long, name-long, key-link, key-name, key-else}
 use Rattle.tables.proofs.order_of.Statement.{statement}
 use Rattle.tables.proofs.order_of.Tie as tie
 

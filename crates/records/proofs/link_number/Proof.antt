@@ -1,12 +1,12 @@
--- `tables::link_number` meets its contract.
+-- `records::link_number` meets its contract.
 -- Assumes nothing.
 use mathlib.Core.Path.{refl, sym, _∙_}
 use borrow.Author.Tests.{not-true, not-false}
 use borrow.Author.Needs.{needs}
-use Rattle.tables.proofs.Stepping.{number-4, number-5, number-6, number-few}
-use Rattle.tables.proofs.Tests.{fit-link, key-link}
-use Rattle.tables.proofs.link_number.Statement.{statement}
-use Rattle.tables.proofs.link_number.Tie as tie
+use Rattle.records.proofs.Stepping.{number-4, number-5, number-6, number-few}
+use Rattle.records.proofs.Tests.{fit-link, key-link}
+use Rattle.records.proofs.link_number.Statement.{statement}
+use Rattle.records.proofs.link_number.Tie as tie
 
 link-is-fit-requires : tie.Need-link-is-fit-requires
 link-is-fit-requires c κs = search needs

@@ -1,8 +1,8 @@
--- `tables::length_fits` meets its contract.
+-- `records::length_fits` meets its contract.
 -- Assumes nothing.
-use Rattle.tables.proofs.Tests.{length-link, length-short, length-name, length-routers, length-end, length-none}
-use Rattle.tables.proofs.length_fits.Statement.{statement}
-use Rattle.tables.proofs.length_fits.Tie as tie
+use Rattle.records.proofs.Tests.{length-link, length-short, length-name, length-routers, length-end, length-none}
+use Rattle.records.proofs.length_fits.Statement.{statement}
+use Rattle.records.proofs.length_fits.Tie as tie
 
 returns : tie.Need-returns
 returns c = length-link _ _ (c .if1 .taken)

@@ -1,13 +1,13 @@
--- `tables::contents_number` meets its contract.
+-- `records::contents_number` meets its contract.
 -- Assumes nothing.
 use mathlib.Core.Path.{sym, _∙_}
 use native.Mathlib.Omega.{arith}
 use borrow.Author.Tests.{not-true, not-false}
 use borrow.Author.Needs.{needs}
-use Rattle.tables.proofs.Stepping.{number-of-tag, number-4, number-free}
-use Rattle.tables.proofs.Tests.{link-long, name-long, routers-long, fit-routers, fit-else}
-use Rattle.tables.proofs.contents_number.Statement.{statement}
-use Rattle.tables.proofs.contents_number.Tie as tie
+use Rattle.records.proofs.Stepping.{number-of-tag, number-4, number-free}
+use Rattle.records.proofs.Tests.{link-long, name-long, routers-long, fit-routers, fit-else}
+use Rattle.records.proofs.contents_number.Statement.{statement}
+use Rattle.records.proofs.contents_number.Tie as tie
 
 link-number-requires : tie.Need-link-number-requires
 link-number-requires c κs = omega (arith, link-long _ _ (c .before .before .pre) (c .if1 .taken))

@@ -1,4 +1,4 @@
--- `tables::is_plain` meets its contract. The bytes from i on decide as those from 1 on do.
+-- `records::is_plain` meets its contract. The bytes from i on decide as those from 1 on do.
 -- Assumes nothing.
 use mathlib.Core.Path.{_≡_, refl}
 use Prim.Native.Nat.{_-_}
@@ -8,9 +8,9 @@ use borrow.Author.Needs.{needs}
 use Rattle.rules.specs.Words.{every}
 use Rattle.rules.specs.Table.{name-byte}
 use Rattle.rules.proofs.Basics.{all-passed}
-use Rattle.tables.proofs.Tests.{byte-low, byte-high, byte-plain}
-use Rattle.tables.proofs.is_plain.Statement.{statement}
-use Rattle.tables.proofs.is_plain.Tie as tie
+use Rattle.records.proofs.Tests.{byte-low, byte-high, byte-plain}
+use Rattle.records.proofs.is_plain.Statement.{statement}
+use Rattle.records.proofs.is_plain.Tie as tie
 
 abbrev Inv-loop : tie.InvT-loop
 Inv-loop contents i₀ i = every name-byte (drop i contents) ≡ every name-byte (drop 1 contents)

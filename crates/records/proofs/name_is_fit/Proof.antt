@@ -1,9 +1,9 @@
--- `tables::name_is_fit` meets its contract.
+-- `records::name_is_fit` meets its contract.
 -- Assumes nothing.
 use borrow.Author.Needs.{needs}
-use Rattle.tables.proofs.Tests.{name-inside, name-outside}
-use Rattle.tables.proofs.name_is_fit.Statement.{statement}
-use Rattle.tables.proofs.name_is_fit.Tie as tie
+use Rattle.records.proofs.Tests.{name-inside, name-outside}
+use Rattle.records.proofs.name_is_fit.Statement.{statement}
+use Rattle.records.proofs.name_is_fit.Tie as tie
 
 shared-slice-read-if1 : tie.Need-shared-slice-read-if1
 shared-slice-read-if1 c = search needs

@@ -1,10 +1,10 @@
--- `tables::next_record` meets its contract.
+-- `records::next_record` meets its contract.
 -- Assumes nothing.
 use native.Mathlib.Omega.{arith}
 use borrow.Author.Needs.{needs}
-use Rattle.tables.proofs.Stepping.{step-header}
-use Rattle.tables.proofs.next_record.Statement.{statement}
-use Rattle.tables.proofs.next_record.Tie as tie
+use Rattle.records.proofs.Stepping.{step-header}
+use Rattle.records.proofs.next_record.Statement.{statement}
+use Rattle.records.proofs.next_record.Tie as tie
 
 returns : tie.Need-returns
 returns c = step-header _ _ _ (omega arith)

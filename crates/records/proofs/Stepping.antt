@@ -1,24 +1,23 @@
--- The reading step's cases, each by the facts that decide it, for a record that stands at a place of a table; what is kept behind a record.
+-- The reading step's cases, each by the facts that decide it, for a record that stands at a place of a table.
 -- Assumes nothing.
 use mathlib.Core.Path.{_≡_, refl, sym, _∙_, ap, ap₂}
 use mathlib.Core.Logic.{_≢_}
 use mathlib.Core.Bool.{Bool, true, false, _&&_, _||_, not}
 use mathlib.Core.List.{List}
 use Prim.Native.Nat.{ℕ, _+_, _-_, _*_, _≤_, _<_}
-use native.Mathlib.Nat.{add-zero}
 use native.Mathlib.Omega.{arith}
 use lib.Dec.{eqb, leb}
 use lib.ListN.{length, take, drop, length-drop}
 use lib.Seq.{length-take-le, drop-drop}
 use borrow.Author.Tests.{eq-eqb, ne-eqb, lt-ltb, le-ltb, le-leb, lt-leb}
 use Rattle.rules.specs.Words.{pick}
-use Rattle.rules.specs.Layout.{tag-routers, tag-name, tag-link}
+use Rattle.rules.specs.Layout.{tag-name, tag-link}
 use Rattle.rules.specs.Table as Rules
-use Rattle.rules.specs.Table.{byte, two-bytes, length-allowed, contents-fit, key, Kept, keep, bad-tag, not-above, too-many, record-in, Step, good, bad, step}
+use Rattle.rules.specs.Table.{byte, two-bytes, length-allowed, contents-fit, key, Kept, bad-tag, not-above, too-many, record-in, Step, good, bad, step}
 use Rattle.rules.proofs.Basics.{both}
 use Rattle.rules.proofs.AtPlace.{tag-there, size-there}
-use Rattle.tables.specs.Steps.{step-of, contents-number, record-with}
-use Rattle.tables.specs.declared.Step.the-variants.{Record, Refused}
+use Rattle.records.specs.Steps.{step-of, contents-number}
+use Rattle.records.specs.declared.Step.the-variants.{Record, Refused}
 
 -- ---- the contents: the first of 4, 5 and 6 that applies
 
@@ -183,21 +182,3 @@ module _ (bytes : List ℕ) (place : ℕ) (kept : Kept) where
                 sym (ap₂ (λ (r : Rules.Record) (end : ℕ). good r end)
                 (ap₂ (λ (t : ℕ) (c : List ℕ). record { place = place; tag = t; contents = c }) tag-is contents-there) (ap (λ n. place + 3 + n) size-is))
                 ∙ cases .1 n
-
--- ---- what is kept behind a record
-
-module _ (kept : Kept) (tag : ℕ) (contents : List ℕ) (last : ℕ) (k : last ≡ key tag contents) where
-  pub kept-link : tag ≡ tag-link
-      → record { routers = kept .routers; tag = tag; last = last; links = kept .links + 1 } ≡ keep kept (record-with tag contents)
-  unfolding keep
-  kept-link e = rw (k, e)
-
-  pub kept-routers : tag ≡ tag-routers
-      → record { routers = byte contents 0; tag = tag; last = last; links = kept .links } ≡ keep kept (record-with tag contents)
-  unfolding keep
-  kept-routers e = rw (k, e, add-zero)
-
-  pub kept-else : tag ≢ tag-link → tag ≢ tag-routers
-      → record { routers = kept .routers; tag = tag; last = last; links = kept .links } ≡ keep kept (record-with tag contents)
-  unfolding keep
-  kept-else l r = rw (ne-eqb tag tag-link l, ne-eqb tag tag-routers r, k, add-zero)

@@ -1,11 +1,11 @@
--- `tables::tag_is_bad` meets its contract.
+-- `records::tag_is_bad` meets its contract.
 -- Assumes nothing.
 use mathlib.Core.Path.{ap}
 use native.Mathlib.Omega.{arith}
 use Rattle.rules.specs.Table.{known-tag}
-use Rattle.tables.proofs.Tests.{tag-first, tag-below, tag-in-order, tag-last}
-use Rattle.tables.proofs.tag_is_bad.Statement.{statement}
-use Rattle.tables.proofs.tag_is_bad.Tie as tie
+use Rattle.records.proofs.Tests.{tag-first, tag-below, tag-in-order, tag-last}
+use Rattle.records.proofs.tag_is_bad.Statement.{statement}
+use Rattle.records.proofs.tag_is_bad.Tie as tie
 
 returns : tie.Need-returns
 returns c = tag-first _ _ (c .if1 .taken)

@@ -1,10 +1,10 @@
--- `tables::link_is_fit` meets its contract.
+-- `records::link_is_fit` meets its contract.
 -- Assumes nothing.
 use native.Mathlib.Omega.{arith}
 use borrow.Author.Needs.{needs}
-use Rattle.tables.proofs.Tests.{ends-fall, end-outside, link-weighed}
-use Rattle.tables.proofs.link_is_fit.Statement.{statement}
-use Rattle.tables.proofs.link_is_fit.Tie as tie
+use Rattle.records.proofs.Tests.{ends-fall, end-outside, link-weighed}
+use Rattle.records.proofs.link_is_fit.Statement.{statement}
+use Rattle.records.proofs.link_is_fit.Tie as tie
 
 shared-slice-read-a : tie.Need-shared-slice-read-a
 shared-slice-read-a c = search needs

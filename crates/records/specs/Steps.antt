@@ -6,9 +6,9 @@ use Prim.Native.Nat.{ℕ, _+_, _-_, _*_}
 use lib.ListN.{take, drop}
 use Rattle.rules.specs.Words.{_when_, first_otherwise_}
 use Rattle.rules.specs.Table.{Record, Kept, Step, good, bad, step, contents-fit, not-above, too-many}
-use Rattle.tables.specs.declared.Kept.{Kept as KeptHere}
-use Rattle.tables.specs.declared.Step.{Step as StepHere}
-use Rattle.tables.specs.declared.Step.the-variants.{Record as RecordHere, Refused}
+use Rattle.records.specs.declared.Kept.{Kept as KeptHere}
+use Rattle.records.specs.declared.Step.{Step as StepHere}
+use Rattle.records.specs.declared.Step.the-variants.{Record as RecordHere, Refused}
 
 -- two bytes as one number, high byte first
 abbrev pub Joins : ℕ → ℕ → ℕ → Type 0
@@ -39,7 +39,3 @@ contents-number kept tag contents =
     ∷ 6 when too-many kept tag
     ∷ []
     otherwise 0
-
--- a record by its tag and contents; its place does not matter to what is kept
-abbrev pub record-with : ℕ → List ℕ → Record
-record-with tag contents = record { place = 0; tag = tag; contents = contents }

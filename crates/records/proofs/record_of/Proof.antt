@@ -1,4 +1,4 @@
--- `tables::record_of` meets its contract. One law for each way out, in the order of the tests.
+-- `records::record_of` meets its contract. One law for each way out, in the order of the tests.
 -- Assumes nothing.
 use mathlib.Core.Path.{_≡_, sym, _∙_}
 use mathlib.Core.Bool.{true, false}
@@ -6,16 +6,16 @@ use native.Mathlib.Omega.{arith}
 use borrow.Author.Tests.{not-true, not-false}
 use borrow.Author.Needs.{needs}
 use Rattle.rules.specs.Table.{bad-tag, length-allowed}
-use Rattle.tables.specs.Steps.{kept-of}
-use Rattle.tables.proofs.Stepping.{step-tag, step-length, step-contents, contents-length, step-number, step-record}
-use Rattle.tables.proofs.record_of.Statement.{statement}
-use Rattle.tables.proofs.record_of.Tie as tie
-use Rattle.tables.proofs.record_of.Reads as reads
-use Rattle.tables.proofs.record_of.Lts as lts
-use Rattle.tables.proofs.contents_number.Reads as contents-number-reads
-use Rattle.tables.proofs.joined.Reads as joined-reads
-use Rattle.tables.proofs.length_fits.Reads as length-fits-reads
-use Rattle.tables.proofs.tag_is_bad.Reads as tag-is-bad-reads
+use Rattle.records.specs.Steps.{kept-of}
+use Rattle.records.proofs.Stepping.{step-tag, step-length, step-contents, contents-length, step-number, step-record}
+use Rattle.records.proofs.record_of.Statement.{statement}
+use Rattle.records.proofs.record_of.Tie as tie
+use Rattle.records.proofs.record_of.Reads as reads
+use Rattle.records.proofs.record_of.Lts as lts
+use Rattle.records.proofs.contents_number.Reads as contents-number-reads
+use Rattle.records.proofs.joined.Reads as joined-reads
+use Rattle.records.proofs.length_fits.Reads as length-fits-reads
+use Rattle.records.proofs.tag_is_bad.Reads as tag-is-bad-reads
 
 -- where tag and length are good
 abbrev Sized : Type 0

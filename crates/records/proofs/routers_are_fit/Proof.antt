@@ -1,8 +1,8 @@
--- `tables::routers_are_fit` meets its contract.
+-- `records::routers_are_fit` meets its contract.
 -- Assumes nothing.
-use Rattle.tables.proofs.Tests.{routers-none, routers-some}
-use Rattle.tables.proofs.routers_are_fit.Statement.{statement}
-use Rattle.tables.proofs.routers_are_fit.Tie as tie
+use Rattle.records.proofs.Tests.{routers-none, routers-some}
+use Rattle.records.proofs.routers_are_fit.Statement.{statement}
+use Rattle.records.proofs.routers_are_fit.Tie as tie
 
 returns : tie.Need-returns
 returns c = routers-none _ (c .if1 .taken)

@@ -1,8 +1,8 @@
--- `tables::is_not_above` meets its contract.
+-- `records::is_not_above` meets its contract.
 -- Assumes nothing.
-use Rattle.tables.proofs.Tests.{same-tag, other-tag}
-use Rattle.tables.proofs.is_not_above.Statement.{statement}
-use Rattle.tables.proofs.is_not_above.Tie as tie
+use Rattle.records.proofs.Tests.{same-tag, other-tag}
+use Rattle.records.proofs.is_not_above.Statement.{statement}
+use Rattle.records.proofs.is_not_above.Tie as tie
 
 returns : tie.Need-returns
 returns c =

@@ -1,13 +1,13 @@
--- `tables::name_number` meets its contract.
+-- `records::name_number` meets its contract.
 -- Assumes nothing.
 use mathlib.Core.Path.{refl, sym, _∙_}
 use native.Mathlib.Omega.{arith}
 use borrow.Author.Tests.{not-true, not-false}
 use borrow.Author.Needs.{needs}
-use Rattle.tables.proofs.Stepping.{number-4, number-5, number-none}
-use Rattle.tables.proofs.Tests.{fit-name, key-name}
-use Rattle.tables.proofs.name_number.Statement.{statement}
-use Rattle.tables.proofs.name_number.Tie as tie
+use Rattle.records.proofs.Stepping.{number-4, number-5, number-none}
+use Rattle.records.proofs.Tests.{fit-name, key-name}
+use Rattle.records.proofs.name_number.Statement.{statement}
+use Rattle.records.proofs.name_number.Tie as tie
 
 name-is-fit-requires : tie.Need-name-is-fit-requires
 name-is-fit-requires c κs = search needs
