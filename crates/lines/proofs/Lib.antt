@@ -3,5 +3,4 @@ pub mod Decimals
 pub mod Commas
 pub mod Lines
 pub mod Others
-pub mod Listings
 pub mod Settled

@@ -1,4 +1,4 @@
-// The listing, line by line into a lent page, and printed.
+// The listing, line by line into a lent page.
 ghost use mathlib.Core.Path.{_≡_};
 ghost use mathlib.Core.Logic.{_≢_};
 ghost use mathlib.Core.List.{[], _∷_, map};
@@ -10,15 +10,10 @@ ghost use denote.Ref.{now};
 ghost use Rattle.rules.specs.Listing.{decimal, joined-by-commas, cost-and-next, line-of};
 ghost use Rattle.rules.specs.NextHops.{members};
 ghost use Rattle.lines.specs.Lines.{Puts, Writes, line-to-other, lines-found, WritesHeader, WritesRefusal, WritesLines};
-use libc::STDOUT_FILENO;
 use search::Found;
 use search::NO_COST;
 use search::all_from;
-use tables::Outline;
-use tables::Reading;
-use tables::read;
 use webs::Web;
-use webs::web_of;
 
 // A byte at a place. This and each function that puts something answers the place behind it.
 fn put(page: &mut [u8], at: usize, byte: u8) -> usize
@@ -178,44 +173,4 @@ pub fn router_lines(page: &mut [u8; 16384], web: Web, routers: u8, router: u8) -
     ensures { λ r. ⌜ WritesLines (now (page .entry)) web routers router r (now (page .exit)) ⌝ }
 {
     lines_from(page, all_from(web, router), routers, router)
-}
-
-// A page with nothing on it.
-fn blank() -> [u8; 16384] {
-    [0; 16384]
-}
-
-// Prints the lines of an accepted table, a page for each router. This and the next two answer whether all was written.
-fn print_lines(table: &[u8], t: Outline) -> bool {
-    let mut page = blank();
-    let length = header(&mut page);
-    if !io::write_all(STDOUT_FILENO, &page[..length]) {
-        return false;
-    }
-    let web = web_of(table, t);
-    let mut router = 0;
-    while router < t.routers {
-        let length = router_lines(&mut page, web, t.routers, router);
-        if !io::write_all(STDOUT_FILENO, &page[..length]) {
-            return false;
-        }
-        router += 1;
-    }
-    true
-}
-
-// Prints a refusal.
-fn print_refusal(number: u8, place: usize) -> bool {
-    let mut page = blank();
-    let length = refusal_line(&mut page, number, place);
-    io::write_all(STDOUT_FILENO, &page[..length])
-}
-
-// Prints the listing of a table.
-pub fn print_listing(table: &[u8]) -> bool {
-    let reading = read(table);
-    match reading {
-        Reading::Accepted(t) => print_lines(table, t),
-        Reading::Refused { number, place } => print_refusal(number, place),
-    }
 }

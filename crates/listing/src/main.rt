@@ -6,7 +6,7 @@ fn main() {
     let mut table = io::buffer();
     // at most 4,096 bytes: a longer table is refused by then with the same number and place
     let length = io::read_full(STDIN_FILENO, &mut table);
-    if !lines::print_listing(&table[..length]) {
+    if !printing::print_listing(&table[..length]) {
         io::write_all(STDERR_FILENO, b"listing: not all could be written\n");
     }
 }

@@ -20,7 +20,7 @@ fn main() {
         length = held(q.letter == b'o', &mut table, length, q.load);
         if q.letter == b's' {
             let n = at_most(length, MOST_BYTES);
-            lines::print_listing(&table[..n]);
+            printing::print_listing(&table[..n]);
         }
         records += 1;
     }

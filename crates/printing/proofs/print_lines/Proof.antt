@@ -1,10 +1,10 @@
--- `lines::print_lines` meets its contract.
+-- `printing::print_lines` meets its contract.
 -- Assumes nothing.
 use Prim.Native.Nat.{_-_}
 use borrow.Author.Needs.{needs}
 use Rattle.lines.proofs.Pages.{has-room, part-long}
-use Rattle.lines.proofs.print_lines.Statement.{statement}
-use Rattle.lines.proofs.print_lines.Tie as tie
+use Rattle.printing.proofs.print_lines.Statement.{statement}
+use Rattle.printing.proofs.print_lines.Tie as tie
 
 abbrev Inv-loop : tie.InvT-loop
 Inv-loop table t page₀ length web router₀ page router = Unit {0}

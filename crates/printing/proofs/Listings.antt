@@ -25,9 +25,9 @@ use Rattle.webs.specs.Webs.{web-weight, web-at}
 use Rattle.search.specs.Search.{found-from}
 use Rattle.search.specs.declared.Found.{Found}
 use Rattle.search.proofs.OfTable.{found-costs, found-sets}
 use Rattle.lines.specs.Lines.{lines-found, lines-over}
-use Rattle.lines.specs.Listings.{page-of, pieces, PrintsTheListing}
+use Rattle.printing.specs.Listings.{page-of, pieces, PrintsTheListing}
 use Rattle.lines.proofs.Others.{flatten-append}
 
 -- functions that agree on a list make the same of it
 map-same : {A : Type 0} (f g : ℕ → A) (xs : List ℕ) → All (λ x. f x ≡ g x) xs → map f xs ≡ map g xs

@@ -1,9 +1,9 @@
--- `lines::print_refusal` meets its contract.
+-- `printing::print_refusal` meets its contract.
 -- Assumes nothing.
 use borrow.Author.Needs.{needs}
 use Rattle.lines.proofs.Pages.{has-room, part-long}
-use Rattle.lines.proofs.print_refusal.Statement.{statement}
-use Rattle.lines.proofs.print_refusal.Tie as tie
+use Rattle.printing.proofs.print_refusal.Statement.{statement}
+use Rattle.printing.proofs.print_refusal.Tie as tie
 
 blank-requires : tie.Need-blank-requires
 blank-requires c κs = search needs
