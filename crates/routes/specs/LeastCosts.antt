@@ -28,7 +28,8 @@ pub record LeadTo (t : Table) (d : ℕ) (costs sets : List ℕ) : Type 0 where
 abbrev pub SameFrom : ℕ → List ℕ → List ℕ → Type 0
 SameFrom n lent after = (length after ≡ length lent) × (drop n after ≡ drop n lent)
 
--- what is asked rightly is answered by N, with N costs and N sets written and nothing behind them; a refusal changes no place
+-- what is asked rightly is answered by N, with N costs and N sets written and nothing behind them; a refusal, whose number is the question's
+-- (`FillQuestion`), changes no place
 abbrev pub OfFilling : FillInputs → Filling → List ℕ → List ℕ → Type 0
 OfFilling q (Filled n) costs sets =
     AllHold (fill-cases q)

@@ -61,8 +61,8 @@ unfolding entry-answer entry-refusals entry-asked entry table-refusal answer rea
 entry-example = refl
 
 pub other-examples : OtherExamples
-unfolding fill-answer fill-refusals costs-after sets-after pair-answer name-answer name-part name-in table-refusal answer afterwards read judge judge-from step bad-tag known-tag length-allowed contents-fit routers-fit name-fits name-byte link-fits key keep not-above too-many says table-of routers-of those every below weight-in tally differing too-different direct best cost set-of leads next-hops
-other-examples = record { no-route-costs = refl; no-route-sets = refl; is-named = refl; name-there = refl; new-refused = refl }
+unfolding cost-and-next joined-by-commas digits text-from has members fill-answer fill-refusals costs-after sets-after pair-answer name-answer name-part name-in table-refusal answer afterwards read judge judge-from step bad-tag known-tag length-allowed contents-fit routers-fit name-fits name-byte link-fits key keep not-above too-many says table-of routers-of those every below weight-in tally differing too-different direct best cost set-of leads next-hops
+other-examples = record { no-route-costs = refl; no-route-sets = refl; three-members = refl; is-named = refl; name-there = refl; new-refused = refl }
 
 pub interface-example : InterfaceExample
 unfolding interfaces-after interfaces-answer interfaces-refusals interfaces row cell entry table-refusal answer afterwards read judge judge-from step bad-tag known-tag length-allowed contents-fit routers-fit name-fits name-byte link-fits key keep not-above too-many says table-of routers-of those every below weight-in direct best cost has members set-of chosen leads next-hops entry-by rules-of flatten

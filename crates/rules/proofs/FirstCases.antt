@@ -78,7 +78,7 @@ unfolding every
 fails-every p f [] = (λ e. absurd (false≢true (sym e)), λ h. absurd h)
 fails-every p f (x ∷ xs) = fails-and (p x) (every p xs) (f x) (fails-every p f xs)
 
--- a test of which the failing is known passes exactly where that does not hold, and the other way round
+-- the opposite of such a test passes exactly where P holds
 pub not-fails : {P : Type 0} (t : Bool) → Fails t P → (not t ≡ true) ↔ P
 not-fails true f = (λ e. absurd (false≢true e), λ p. absurd (false≢true (sym (f .1 p))))
 not-fails false f = (λ e. f .0 refl, λ p. refl)

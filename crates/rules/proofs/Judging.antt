@@ -2,15 +2,14 @@
 -- Assumes nothing.
 use mathlib.Core.Path.{_≡_, refl, _∙_, ap}
 use mathlib.Core.Logic.{_≢_}
-use mathlib.Core.Bool.{Bool, true, false, not}
+use mathlib.Core.Bool.{Bool, true, false}
 use mathlib.Core.List.{List, [], _∷_}
 use Prim.Native.Nat.{ℕ, zero, suc, _+_, _≤_, _<_}
 use native.Mathlib.Decide.{ℕ-discrete}
 use native.Mathlib.Omega.{arith}
-use lib.Dec.{ltb}
 use lib.ListN.{length, take, drop, length-drop}
 use borrow.Author.Tests.{ltb-false, le-ltb, eq-eqb, ne-eqb, not-false}
-use Rattle.rules.specs.Words.{pick, Line, _when_, first_otherwise_, All}
+use Rattle.rules.specs.Words.{pick, Line, first_otherwise_, All}
 use Rattle.rules.specs.Layout.{tag-end}
 use Rattle.rules.specs.Table.{byte, two-bytes, Kept, nothing-kept, keep, bad-tag, length-allowed, contents-fit, not-above, too-many, record-in, Step, good, bad, step-refusals, step, Judged, accepted, refused, followed-by, judge-from, judge}
 
@@ -38,14 +37,16 @@ pub data Steps (kept : Kept) (place : ℕ) (left : List ℕ) : Step → Type 0 w
   gives : Good kept left → Steps kept place left (good (record-in place left) (place + 3 + size-in left))
   refuses : (number : ℕ) → 1 ≤ number → number ≤ 6 → Steps kept place left (bad number place)
 
--- Lines of which each gives a number from 1 to 6 at the place: the first that applies refuses, and where none does the other step is given.
-abbrev number-in : Step → ℕ
-number-in (good r end) = 0
-number-in (bad number place) = number
+-- the number of a bad record
+abbrev bad-number : Step → ℕ
+bad-number (good r end) = 0
+bad-number (bad number place) = number
 
+-- a line that gives a number from 1 to 6 at the place
 abbrev Refuses : ℕ → Line Step → Type 0
-Refuses place l = (l .gives ≡ bad (number-in (l .gives)) place) × (1 ≤ number-in (l .gives)) × (number-in (l .gives) ≤ 6)
+Refuses place l = (l .gives ≡ bad (bad-number (l .gives)) place) × (1 ≤ bad-number (l .gives)) × (bad-number (l .gives) ≤ 6)
 
+-- of such lines the first that applies refuses, and where none does the other step is given
 data FirstLine (place : ℕ) (ls : List (Line Step)) (other : Step) : Step → Type 0 where
   one-applies : (number : ℕ) → 1 ≤ number → number ≤ 6 → FirstLine place ls other (bad number place)
   none-applies : All (λ l. l .applies ≡ false) ls → FirstLine place ls other other
@@ -59,7 +60,7 @@ first-line place (l ∷ ls) other ((e, a, b), h) = go (l .applies) refl (first-l
     later q (none-applies f) = none-applies (q, f)
 
     go : (t : Bool) → l .applies ≡ t → FirstLine place ls other (first ls otherwise other) → FirstLine place (l ∷ ls) other (pick t (l .gives) (first ls otherwise other))
-    go true q ih = rw e (one-applies (number-in (l .gives)) a b)
+    go true q ih = rw e (one-applies (bad-number (l .gives)) a b)
     go false q ih = later q ih
 
 pub steps : (kept : Kept) (place : ℕ) (left : List ℕ) → Steps kept place left (step kept place left)

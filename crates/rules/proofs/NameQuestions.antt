@@ -148,7 +148,7 @@ module _ (q : NameInputs) where
     when-unnamed = λ e s. (exactly .given e ∙ ap named s, part-given e ∙ ap part-of s);
     when-named = λ m e s.
         let p = part-given e ∙ ap part-of s in
-        (exactly .given e ∙ ap named s, ap (λ p. p .table) p, ap (part-bytes (q .table)) p ∙ part-stands (q .table) (q .router) m s);
+        (exactly .given e ∙ ap named s, p, ap (part-bytes (q .table)) p ∙ part-stands (q .table) (q .router) m s);
     fits = fits;
   }
 
@@ -201,13 +201,13 @@ module _ (q : TwoNamesInputs) where
     when-new = λ m e s.
         let p = part-of-two-given e ∙ ap (λ o. part-of-two o (found-in-old q)) s in (
           exactly-two .given e ∙ ap (λ o. named (or-else o (found-in-old q))) s,
-          ap (λ p. p .table) p,
+          p,
           ap (part-bytes (q .new)) p ∙ part-stands (q .new) (q .router) m s,
         );
     when-old = λ m e s r.
         let p = part-of-two-given e ∙ ap₂ part-of-two s r in (
           exactly-two .given e ∙ ap₂ (λ o p. named (or-else o p)) s r,
-          ap (λ p. p .table) p,
+          p,
           ap (part-bytes (q .old)) p ∙ part-stands (q .old) (q .router) m r,
         );
     fits = fits-two;

@@ -18,4 +18,4 @@ chosen-answer q = record { hop = chosen (q .set); size = size (q .set) }
 
 pub record ChosenProved (q : ChosenInputs) : Type 0 where
   pub given : chosen-answer q ≡ record { hop = chosen (q .set); size = size (q .set) }
-  pub by-bits : q .set < 2 ^ 64 → ByBits (q .set)
+  pub by-bits : q .set < 2 ^ 64 → ByBits (q .set) (chosen-answer q .hop) (chosen-answer q .size)

@@ -6,7 +6,7 @@ use mathlib.Core.Logic.{_≢_, _⊎_, _↔_}
 use mathlib.Core.List.{List}
 use Prim.Native.Nat.{ℕ, _≤_}
 use lib.ListN.{length, take}
-use Rattle.rules.specs.Layout.{Bytes, Name, Obeys, Table, longest-table, written}
+use Rattle.rules.specs.Layout.{Bytes, Name, Obeys, Table, written}
 use Rattle.rules.specs.Table.{number-of, place-of, read, refused, says}
 use Rattle.rules.specs.ListedCases.{EndsAt, RefusedAt}
 use Rattle.rules.specs.Links.{weight}
@@ -81,8 +81,8 @@ NamesNeverCount =
 -- ---- lengths (proofs/Lengths)
 
 pub record Lengths (bytes : List ℕ) : Type 0 where
-  pub longest : IsAccepted bytes → length bytes ≤ longest-table
-  pub place-near : place-of (read bytes) ≤ longest-table
+  pub longest : IsAccepted bytes → length bytes ≤ 3079
+  pub place-near : place-of (read bytes) ≤ 3079
   -- the first 4,096 bytes of a longer input are refused with the same number and place
   pub same-reading : read (take 4096 bytes) ≡ read bytes
   pub same-listing : listing (take 4096 bytes) ≡ listing bytes

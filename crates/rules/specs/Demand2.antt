@@ -65,16 +65,16 @@ EmptySets = (t : Table) → Obeys t → (i d : ℕ) → (next-hops t i d ≡ 0) 
 abbrev pub SetsFit : Type 0
 SetsFit = (t : Table) → Obeys t → (i d : ℕ) → next-hops t i d < 2 ^ 64
 
--- the chosen hop is the lowest member, by trailing zeros, and the size the count of ones; an empty set answers 255 and 0
-pub record ByBits (set : ℕ) : Type 0 where
-  pub member : 0 < set → has set (chosen set) ≡ true
-  pub lowest : (k : ℕ) → has set k ≡ true → chosen set ≤ k
-  pub by-zeros : 0 < set → chosen set ≡ trailingZeros 64 set
-  pub counted : size set ≡ ones set
-  pub empty : set ≡ 0 → (chosen set ≡ 255) × (size set ≡ 0)
+-- hop is the lowest member, by trailing zeros, and count the number of members, by ones; an empty set answers 255 and 0
+pub record ByBits (set hop count : ℕ) : Type 0 where
+  pub member : 0 < set → has set hop ≡ true
+  pub lowest : (k : ℕ) → has set k ≡ true → hop ≤ k
+  pub by-zeros : 0 < set → hop ≡ trailingZeros 64 set
+  pub counted : count ≡ ones set
+  pub empty : set ≡ 0 → (hop ≡ 255) × (count ≡ 0)
 
 abbrev pub ChosenByBits : Type 0
-ChosenByBits = (set : ℕ) → set < 2 ^ 64 → ByBits set
+ChosenByBits = (set : ℕ) → set < 2 ^ 64 → ByBits set (chosen set) (size set)
 
 -- ---- entries (proofs/Entries)
 

@@ -38,7 +38,7 @@ entry-answer q =
 pub record EntryNumbers (n i j d : ℕ) : Type 0 where
   pub router-below : i < n
   pub destination-below : d < n
-  pub previous-below : (j ≡ starts-here) ⊎ (j < n)
+  pub previous-below : (j ≡ 255) ⊎ (j < n)
   pub not-itself : j ≢ i
 
 -- the table, 9

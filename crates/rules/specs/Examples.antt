@@ -12,7 +12,7 @@ use Rattle.rules.specs.EntryQuestion.{entry-answer}
 use Rattle.rules.specs.InterfacesQuestion.{interfaces-after}
 use Rattle.rules.specs.PathQuestion.{PathInputs, GoodViews, path-answer, trace-after}
 use Rattle.rules.specs.NameQuestions.{name-answer, name-part}
-use Rattle.rules.specs.Listing.{listing}
+use Rattle.rules.specs.Listing.{cost-and-next, listing}
 
 -- ---- tables
 
@@ -121,7 +121,7 @@ BenchExamples = (any : List ℕ) → GoodViews 3 any → All (λ c. reply (c .0)
 abbrev pub EntryExample : Type 0
 EntryExample = entry-answer (record { table = routers 3 ++ link 0 1 1 ++ table-end; router = 0; previous = 2; destination = 1 }) ≡ answered 1
 
--- ---- what no example above shows: what is written where there is no route, a name, and a refusal of the new table
+-- ---- what no example above shows: what is written where there is no route, three members, a name, and a refusal of the new table
 
 abbrev apart-to-0 : FillInputs
 apart-to-0 = record { table = pair-apart; destination = 0; costs = replicate 3 7; sets = replicate 3 7 }
@@ -133,6 +133,7 @@ named-table = routers 1 ++ (0x02 ∷ 0x00 ∷ 0x02 ∷ 0 ∷ 0x41 ∷ []) ++ tab
 pub record OtherExamples : Type 0 where
   pub no-route-costs : costs-after apart-to-0 ≡ 0 ∷ 4294967295 ∷ 7 ∷ []
   pub no-route-sets : sets-after apart-to-0 ≡ 0 ∷ 0 ∷ 7 ∷ []
+  pub three-members : cost-and-next 7 0b11100 ≡ text "7 2,3,4"
   pub is-named : name-answer (record { table = named-table; router = 0 }) ≡ answered 1
   pub name-there : name-part (record { table = named-table; router = 0 }) ≡ record { table = 0; place = 8; size = 1 }
   pub new-refused : pair-answer (record { old = pair-apart; new = routers 65 ++ table-end }) ≡ refused-with (record { routers = 0; differ = 0 }) 4 1 0

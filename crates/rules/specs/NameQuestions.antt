@@ -66,7 +66,9 @@ pub record NameProved (q : NameInputs) : Type 0 where
   pub when-unnamed : Answered (name-answer q) → name-found q ≡ none
       → (name-answer q .values ≡ 0) × (name-part q ≡ record { table = 0; place = length (q .table); size = 0 })
   pub when-named : (m : Name) → Answered (name-answer q) → name-found q ≡ some m
-      → (name-answer q .values ≡ 1) × (name-part q .table ≡ 0) × (part-bytes (q .table) (name-part q) ≡ m .bytes)
+      → (name-answer q .values ≡ 1)
+      × (name-part q ≡ record { table = 0; place = m .place; size = length (m .bytes) })
+      × (part-bytes (q .table) (name-part q) ≡ m .bytes)
   pub fits : name-answer q .values ≡ 1 → PartFits (q .table) (name-part q)
 
 -- ---- in two tables
@@ -120,7 +122,11 @@ pub record TwoNamesProved (q : TwoNamesInputs) : Type 0 where
   pub when-unnamed : Answered (two-names-answer q) → found-in-new q ≡ none → found-in-old q ≡ none
       → (two-names-answer q .values ≡ 0) × (two-names-part q ≡ record { table = 1; place = length (q .new); size = 0 })
   pub when-new : (m : Name) → Answered (two-names-answer q) → found-in-new q ≡ some m
-      → (two-names-answer q .values ≡ 1) × (two-names-part q .table ≡ 1) × (part-bytes (q .new) (two-names-part q) ≡ m .bytes)
+      → (two-names-answer q .values ≡ 1)
+      × (two-names-part q ≡ record { table = 1; place = m .place; size = length (m .bytes) })
+      × (part-bytes (q .new) (two-names-part q) ≡ m .bytes)
   pub when-old : (m : Name) → Answered (two-names-answer q) → found-in-new q ≡ none → found-in-old q ≡ some m
-      → (two-names-answer q .values ≡ 1) × (two-names-part q .table ≡ 0) × (part-bytes (q .old) (two-names-part q) ≡ m .bytes)
+      → (two-names-answer q .values ≡ 1)
+      × (two-names-part q ≡ record { table = 0; place = m .place; size = length (m .bytes) })
+      × (part-bytes (q .old) (two-names-part q) ≡ m .bytes)
   pub fits : two-names-answer q .values ≡ 1 → PartFits (table-in q (two-names-part q)) (two-names-part q)
