@@ -30,26 +30,26 @@ use Rattle.routes.specs.Hops.{FindsHops}
 use Rattle.entries.specs.declared.Entry.the-variants.{Deliver, Discard, NoRoute, Forward}
 use Rattle.entries.specs.Entries.{entry-told, rules-by, pipo, Decides}
 
--- ---- the four lines, by a set and the previous hops whose packets are dropped
+-- ---- the four lines, by a set and the previous hops whose packets are discarded
 
-module _ (set dropped i j d : ℕ) where
-  pub delivers : i ≡ d → Decides set dropped i j d Deliver
+module _ (set discarded i j d : ℕ) where
+  pub delivers : i ≡ d → Decides set discarded i j d Deliver
   unfolding entry-told
-  delivers e = sym (home-delivers (rules-by set dropped) i j d e)
+  delivers e = sym (home-delivers (rules-by set discarded) i j d e)
 
   module _ (a : i ≢ d) where
-    pub cut-off : set ≡ 0 → Decides set dropped i j d NoRoute
+    pub cut-off : set ≡ 0 → Decides set discarded i j d NoRoute
     unfolding entry-told entry-by rules-by
     cut-off e = rw (ne-eqb i d a, le-ltb 0 set (omega arith))
 
     module _ (s : set ≢ 0) where
-      pub drops : has dropped j ≡ true → Decides set dropped i j d Discard
+      pub discards : has discarded j ≡ true → Decides set discarded i j d Discard
       unfolding entry-told rules-by
-      drops e = sym (discards-drop (rules-by set dropped) i j d a (lt-ltb 0 set (omega arith)) e)
+      discards e = sym (discards-drop (rules-by set discarded) i j d a (lt-ltb 0 set (omega arith)) e)
 
-      pub sends : (k : ℕ) → k ≡ chosen set → has dropped j ≡ false → Decides set dropped i j d (Forward k)
+      pub sends : (k : ℕ) → k ≡ chosen set → has discarded j ≡ false → Decides set discarded i j d (Forward k)
       unfolding entry-told rules-by
-      sends k q e = ap forward q ∙ sym (others-go (rules-by set dropped) i j d a (lt-ltb 0 set (omega arith)) e)
+      sends k q e = ap forward q ∙ sym (others-go (rules-by set discarded) i j d a (lt-ltb 0 set (omega arith)) e)
 
 -- away from the destination the set is empty exactly if there is no route, so that the set alone decides as the table does
 pub by-set : (t : Table) → Obeys t → (i j d set : ℕ) → set ≡ next-hops t i d → entry-by (pipo set) i j d ≡ entry t i j d

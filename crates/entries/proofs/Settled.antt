@@ -29,8 +29,8 @@ entry-again Discard = refl
 entry-again NoRoute = refl
 entry-again (Forward k) = refl
 
-pub decide-settled : (set dropped i j d : ℕ) → Settles (Decides set dropped i j d)
-decide-settled set dropped i j d = equations-settle _ _ entry-told entry-from entry-again _
+pub decide-settled : (set discarded i j d : ℕ) → Settles (Decides set discarded i j d)
+decide-settled set discarded i j d = equations-settle _ _ entry-told entry-from entry-again _
 
 pub code-settled : (e : EntryHere) → Settles (Codes e)
 code-settled e = value-settled _

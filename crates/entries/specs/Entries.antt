@@ -20,17 +20,17 @@ entry-told Discard = discard
 entry-told NoRoute = no-route
 entry-told (Forward k) = forward k
 
--- the rules by a next-hop set alone, with no route where it is empty, and by the previous hops whose packets are dropped
+-- the rules by a next-hop set alone, with no route where it is empty, and by the previous hops whose packets are discarded
 unfoldable pub rules-by : ℕ → ℕ → Rules
-rules-by set dropped = record { has-route = λ i. 0 <? set; discards = λ i j. has dropped j; hop = λ i j. chosen set }
+rules-by set discarded = record { has-route = λ i. 0 <? set; discards = λ i j. has discarded j; hop = λ i j. chosen set }
 
--- document 01's, by rule PIPO: packets from any member of the set are dropped
+-- document 01's, by rule PIPO: packets from any member of the set are discarded
 abbrev pub pipo : ℕ → Rules
 pipo set = rules-by set set
 
--- r is the entry of router i for previous hop j and destination d, by its next-hop set for d and the previous hops whose packets are dropped
+-- r is the entry of router i for previous hop j and destination d, by its next-hop set for d and the previous hops whose packets are discarded
 abbrev pub Decides : ℕ → ℕ → ℕ → ℕ → ℕ → EntryHere → Type 0
-Decides set dropped i j d r = entry-told r ≡ entry-by (rules-by set dropped) i j d
+Decides set discarded i j d r = entry-told r ≡ entry-by (rules-by set discarded) i j d
 
 -- r is the code of an entry
 abbrev pub Codes : EntryHere → ℕ → Type 0

@@ -32,10 +32,10 @@ pub enum EntryAnswer {
 // The previous hop of a packet that starts here.
 pub const STARTS_HERE: u8 = 255;
 
-// The entry by the router's next-hop set for the destination and by the previous hops whose packets are dropped, which are the same set by rule PIPO:
-// the first line that applies.
-pub fn decide(set: u64, dropped: u64, router: u8, previous: u8, destination: u8) -> Entry
-    ensures { λ r. ⌜ Decides set dropped router previous destination r ⌝ }
+// The entry of a router, the first line that applies: by its next-hop set for the destination, and by the previous hops whose packets are discarded
+// (rule PIPO: the same set).
+pub fn decide(set: u64, discarded: u64, router: u8, previous: u8, destination: u8) -> Entry
+    ensures { λ r. ⌜ Decides set discarded router previous destination r ⌝ }
 {
     if router == destination {
         return Entry::Deliver;
@@ -44,7 +44,7 @@ pub fn decide(set: u64, dropped: u64, router: u8, previous: u8, destination: u8)
         return Entry::NoRoute;
     }
     let hop = chosen(set);
-    let discards = has(dropped, previous);
+    let discards = has(discarded, previous);
     if discards {
         return Entry::Discard;
     }

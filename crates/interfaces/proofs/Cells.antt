@@ -31,7 +31,7 @@ use Rattle.sets.proofs.Members.{nobody}
 use Rattle.sets.proofs.Bits.{has-joined}
 use Rattle.entries.specs.declared.Entry.{Entry}
 use Rattle.entries.specs.Entries.{entry-told, pipo, Decides, Codes}
-use Rattle.entries.proofs.Entries.{delivers, cut-off, drops, sends, by-set}
+use Rattle.entries.proofs.Entries.{delivers, cut-off, discards, sends, by-set}
 use Rattle.interfaces.specs.Interfaces.{code-by, start-codes, code-from, cell-from, members-of, rows}
 
 -- ---- row 255
@@ -120,7 +120,7 @@ code-split set i j d b own = go (ℕ-discrete i d) (ℕ-discrete set 0) (has set
         → pick (has set j) 129 (code (entry-by (pipo set) i starts-here d)) ≡ code (entry-by (pipo set) i j d)
     go (yes e) s t q = pick-f _ _ _ (none (own e)) ∙ ap code (sym (delivers set set i starts-here d e) ∙ delivers set set i j d e)
     go (no a) (yes s) t q = pick-f _ _ _ (none s) ∙ ap code (sym (cut-off set set i starts-here d a s) ∙ cut-off set set i j d a s)
-    go (no a) (no s) true q = pick-t _ _ _ q ∙ ap code (drops set set i j d a s q)
+    go (no a) (no s) true q = pick-t _ _ _ q ∙ ap code (discards set set i j d a s q)
     go (no a) (no s) false q =
         pick-f _ _ _ q
         ∙ ap code (sym (sends set set i starts-here d a s (chosen set) refl (has-below set 64 starts-here b (omega arith))) ∙ sends set set i j d a s (chosen set) refl q)

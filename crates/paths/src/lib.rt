@@ -126,12 +126,12 @@ fn entry_at<'a>(
     let i = router as usize;
     if views[hops as usize] == 1 {
         let set = guides[NEW_SETS + i];
-        let dropped = guides[NEW_SETS + i];
-        return decide(set, dropped, router, previous, destination);
+        let discarded = guides[NEW_SETS + i];
+        return decide(set, discarded, router, previous, destination);
     }
     let set = guides[OLD_SETS + i];
-    let dropped = guides[OLD_SETS + i];
-    decide(set, dropped, router, previous, destination)
+    let discarded = guides[OLD_SETS + i];
+    decide(set, discarded, router, previous, destination)
 }
 
 // The router is written behind those that were visited before it.

@@ -2,7 +2,7 @@
 -- Assumes nothing.
 use mathlib.Core.Path.{sym, _∙_}
 use borrow.Author.Needs.{needs}
-use Rattle.entries.proofs.Entries.{delivers, cut-off, drops, sends}
+use Rattle.entries.proofs.Entries.{delivers, cut-off, discards, sends}
 use Rattle.entries.proofs.decide.Statement.{statement}
 use Rattle.entries.proofs.decide.Tie as tie
 
@@ -21,7 +21,7 @@ has-requires c κs = search needs
 returns-3 : tie.Need-returns-3
 returns-3 c =
     let m = c .before .before .before in
-    drops _ _ _ _ _ (m .before .if1 .left) (m .if2 .left) (sym (c .before .has .ensures) ∙ c .if3 .taken)
+    discards _ _ _ _ _ (m .before .if1 .left) (m .if2 .left) (sym (c .before .has .ensures) ∙ c .if3 .taken)
 
 returns-4 : tie.Need-returns-4
 returns-4 c =

@@ -20,14 +20,14 @@ mul-set c = search needs
 element-copy-out-set : tie.Need-element-copy-out-set
 element-copy-out-set c = search needs
 
-add-dropped : tie.Need-add-dropped
-add-dropped c = search needs
+add-discarded : tie.Need-add-discarded
+add-discarded c = search needs
 
-mul-dropped : tie.Need-mul-dropped
-mul-dropped c = search needs
+mul-discarded : tie.Need-mul-discarded
+mul-discarded c = search needs
 
-element-copy-out-dropped : tie.Need-element-copy-out-dropped
-element-copy-out-dropped c = search needs
+element-copy-out-discarded : tie.Need-element-copy-out-discarded
+element-copy-out-discarded c = search needs
 
 decide-requires : tie.Need-decide-requires
 decide-requires c κs = search needs
@@ -46,14 +46,14 @@ mul-set-2 c = search needs
 element-copy-out-set-2 : tie.Need-element-copy-out-set-2
 element-copy-out-set-2 c = search needs
 
-add-dropped-2 : tie.Need-add-dropped-2
-add-dropped-2 c = search needs
+add-discarded-2 : tie.Need-add-discarded-2
+add-discarded-2 c = search needs
 
-mul-dropped-2 : tie.Need-mul-dropped-2
-mul-dropped-2 c = search needs
+mul-discarded-2 : tie.Need-mul-discarded-2
+mul-discarded-2 c = search needs
 
-element-copy-out-dropped-2 : tie.Need-element-copy-out-dropped-2
-element-copy-out-dropped-2 c = search needs
+element-copy-out-discarded-2 : tie.Need-element-copy-out-discarded-2
+element-copy-out-discarded-2 c = search needs
 
 decide-requires-2 : tie.Need-decide-requires-2
 decide-requires-2 c κs = search needs
@@ -72,16 +72,16 @@ entry-at-spec =
     add-set
     mul-set
     element-copy-out-set
-    add-dropped
-    mul-dropped
-    element-copy-out-dropped
+    add-discarded
+    mul-discarded
+    element-copy-out-discarded
     decide-requires
     returns-2
     add-set-2
     mul-set-2
     element-copy-out-set-2
-    add-dropped-2
-    mul-dropped-2
-    element-copy-out-dropped-2
+    add-discarded-2
+    mul-discarded-2
+    element-copy-out-discarded-2
     decide-requires-2
     returns-3)
