@@ -16,7 +16,7 @@ use borrow.Author.Tests.{ne-eqb}
 use Rattle.rules.specs.Words.{pick}
 use Rattle.rules.specs.NextHops.{has}
 use Rattle.rules.specs.Entries.{Entry, deliver, discard, no-route, forward, starts-here, entry-by}
-use Rattle.rules.specs.Paths.{Choice, Outcome, delivered, discarded, unrouted, lost, Path, Site, old-view, new-view, ended, crossed, follow, arrive, leave, entry-at, listed, path-in}
+use Rattle.rules.specs.Paths.{Choice, Outcome, delivered, discarded, unrouted, lost, Path, Site, old-view, new-view, by, ended, crossed, follow, arrive, leave, entry-at, listed, path-in}
 use Rattle.rules.proofs.Basics.{same-everywhere}
 use Rattle.rules.proofs.Sets.{member-below}
 use Rattle.rules.proofs.Entries.{home-delivers}
@@ -25,7 +25,7 @@ use Rattle.entries.specs.declared.Entry.the-variants.{Deliver, Discard, NoRoute
 use Rattle.entries.specs.Entries.{entry-told, pipo}
 use Rattle.paths.specs.declared.Outcome.the-variants.{Delivered, Discarded, NoRoute, Lost}
 use Rattle.paths.specs.declared.Ending.{Ending}
-use Rattle.paths.specs.Following.{carriers, numbers-from, rules-over, site-over, outcome-case, ending-after, written, ending-word, ending-in, Standing, arriving, leaving, Arrives, Leaves, Lent, path-over}
+use Rattle.paths.specs.Following.{old-sets, new-sets, carriers, sets-start, numbers-from, rules-over, site-over, outcome-case, ending-after, written, ending-word, ending-in, Standing, arriving, leaving, Arrives, Leaves, Lent, path-over}
 use Rattle.paths.proofs.EndingWords.{ending-again}
 
 -- ---- the parts of the guides
@@ -36,6 +36,19 @@ in-part guides at i h = getD-take 64 (drop at guides) i 0 h ∙ getD-drop at gui
 
 -- ---- the entry that a router finds
 
+-- the sets of a view begin where its byte says, and 64 behind the first at most
+start-same : (new : Bool) → by (pick new new-view old-view) old-sets new-sets ≡ pick new new-sets old-sets
+start-same true = refl
+start-same false = refl
+
+pub start-low : (byte start : ℕ) → start ≡ sets-start byte → start ≤ 64
+unfolding sets-start
+start-low byte = go (eqb byte 1)
+  where
+    go : (new : Bool) (start : ℕ) → start ≡ pick new new-sets old-sets → start ≤ 64
+    go true start e = omega arith
+    go false start e = omega arith
+
 module _ (guides views : List ℕ) (d i j hops : ℕ) where
   -- by the view that the byte of this hop says
   abbrev found : Entry
@@ -45,14 +58,10 @@ module _ (guides views : List ℕ) (d i j hops : ℕ) where
   unfolding entry-told site-over
   found-home e = sym (home-delivers _ i j d e)
 
-  module _ (b : i < 64) (r : EntryHere) where
-    pub found-new : getD views hops 0 ≡ 1 → entry-told r ≡ entry-by (pipo (getD guides (64 + i) 0)) i j d → entry-told r ≡ found
-    unfolding entry-by rules-over listed site-over
-    found-new e q = rw (e, in-part guides 64 i b) q
-
-    pub found-old : getD views hops 0 ≢ 1 → entry-told r ≡ entry-by (pipo (getD guides (0 + i) 0)) i j d → entry-told r ≡ found
-    unfolding entry-by rules-over listed site-over
-    found-old e q = rw (ne-eqb (getD views hops 0) 1 e, in-part guides 0 i b) q
+  pub found-by : i < 64 → (start : ℕ) → start ≡ sets-start (getD views hops 0)
+      → (r : EntryHere) → entry-told r ≡ entry-by (pipo (getD guides (start + i) 0)) i j d → entry-told r ≡ found
+  unfolding entry-by rules-over listed site-over sets-start
+  found-by b start e r q = rw (start-same (eqb (getD views hops 0) 1), ← e, in-part guides start i b) q
 
 -- ---- leaving
 

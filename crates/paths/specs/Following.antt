@@ -4,7 +4,7 @@ use mathlib.Core.List.{List, _++_, map}
 use Prim.Native.Nat.{ℕ, zero, suc, _+_, _-_, _*_, _/_, _%_, _^_, _≤_, _<_}
 use lib.ListN.{length, take, drop, getD}
 use lib.Seq.{paste, sets}
-use Rattle.rules.specs.Words.{below}
+use Rattle.rules.specs.Words.{_=?_, pick, below}
 use Rattle.rules.specs.NextHops.{has}
 use Rattle.rules.specs.Entries.{Rules}
 use Rattle.rules.specs.Paths.{Outcome, delivered, discarded, unrouted, lost, Path, Site, by, ended, follow, leave, listed, path-in}
@@ -28,6 +28,10 @@ new-sets = 64
 
 abbrev pub carriers : ℕ
 carriers = 128
+
+-- where the sets of a view begin, by the byte of the list that says it
+unfoldable pub sets-start : ℕ → ℕ
+sets-start byte = pick (byte =? 1) new-sets old-sets
 
 -- the numbers of 64 routers, from a place on
 abbrev pub numbers-from : ℕ → List ℕ → List ℕ

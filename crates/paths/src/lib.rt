@@ -8,7 +8,7 @@ ghost use Rattle.rules.specs.Paths.{entry-at, listed};
 ghost use Rattle.rules.specs.Answers.{number-in};
 ghost use Rattle.rules.specs.PathQuestion.{bad-views, bad-numbers, packet-refusals};
 ghost use Rattle.entries.specs.Entries.{entry-told};
-ghost use Rattle.paths.specs.Following.{laid, guided, guides-to, site-over, path-over, ending-after, written, ending-word, ending-in, Standing, Arrives, Leaves, Lent};
+ghost use Rattle.paths.specs.Following.{sets-start, laid, guided, guides-to, site-over, path-over, ending-after, written, ending-word, ending-in, Standing, Arrives, Leaves, Lent};
 ghost use Rattle.paths.specs.PathAnswers.{outcome-of, Codes, Tells, Followable, AnswersPath};
 use entries::Entry;
 use entries::STARTS_HERE;
@@ -106,6 +106,16 @@ fn guides_to(old: &[u8], o: Outline, new: &[u8], n: Outline, destination: u8) ->
     guides
 }
 
+// Where the sets of a view begin, by the byte of the list that says it: 1 the new view, else the old.
+fn sets_start(view: u8) -> usize
+    ensures { λ r. ⌜ r ≡ sets-start view ⌝ }
+{
+    if view == 1 {
+        return NEW_SETS;
+    }
+    OLD_SETS
+}
+
 // The entry of the router that decides after so many hops: its byte of the list says the view for the whole entry. The destination delivers in
 // either view and reads no byte.
 fn entry_at<'a>(
@@ -123,14 +133,10 @@ fn entry_at<'a>(
     if router == destination {
         return Entry::Deliver;
     }
+    let start = sets_start(views[hops as usize]);
     let i = router as usize;
-    if views[hops as usize] == 1 {
-        let set = guides[NEW_SETS + i];
-        let discarded = guides[NEW_SETS + i];
-        return decide(set, discarded, router, previous, destination);
-    }
-    let set = guides[OLD_SETS + i];
-    let discarded = guides[OLD_SETS + i];
+    let set = guides[start + i];
+    let discarded = guides[start + i];
     decide(set, discarded, router, previous, destination)
 }
 
