@@ -52,7 +52,7 @@ module _ (n s d : ℕ) where
   unfolding bad-numbers
   destination-decides a = rw (lt-leb n s a)
 
--- ---- 9, 11 and 10, where the tables go together
+-- ---- 9, then 11
 
 module _ (n : ℕ) (bad : Bool) (views : List ℕ) where
   pub number-bad : bad ≡ true → 9 ≡ number-in (packet-refusals n bad views)

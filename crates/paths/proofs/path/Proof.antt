@@ -1,5 +1,6 @@
 -- `paths::path` meets its contract.
 -- Assumes nothing.
+use Prim.Native.Nat.{_<_}
 use native.Mathlib.Omega.{arith}
 use borrow.Author.Needs.{needs}
 use Rattle.tables.proofs.Asked.{some-routers, few-routers}
@@ -7,6 +8,12 @@ use Rattle.pairs.proofs.Answers.{pairing-accepted, pairing-refused}
 use Rattle.paths.proofs.Answers.{numbers-fit, pair-refused, number-refused, followable}
 use Rattle.paths.proofs.path.Statement.{statement}
 use Rattle.paths.proofs.path.Tie as tie
+use Rattle.paths.proofs.path.Reads as reads
+use Rattle.paths.proofs.path.Lts as lts
+use Rattle.pairs.proofs.pair.Reads as pair-reads
+use Rattle.paths.proofs.numbers_are_bad.Reads as numbers-are-bad-reads
+use Rattle.paths.proofs.packet_number.Reads as packet-number-reads
+use Rattle.paths.proofs.path_in.Reads as path-in-reads
 
 pair-requires : tie.Need-pair-requires
 pair-requires c κs = search needs
@@ -30,21 +37,33 @@ returns c =
     let a = pairing-accepted _ _ (m .before .before .pair .ensures) _ _ _ (m .pairing .given .1) in
     number-refused _ _ _ a _ (n .numbers-are-bad .ensures) _ (c .before .packet-number .ensures) (c .if1 .taken)
 
-cast-path-in : tie.Need-cast-path-in
-cast-path-in c =
+-- where 9 and 11 do not refuse, source and destination are one byte each
+abbrev Unrefused : Type 0
+Unrefused =
+    lts.Else1 (
+      pair-reads.Asked,
+      pair-reads.Learnt,
+      numbers-are-bad-reads.Asked,
+      numbers-are-bad-reads.Learnt,
+      packet-number-reads.Asked,
+      packet-number-reads.Learnt,
+      path-in-reads.Asked,
+      path-in-reads.Learnt,
+    ) reads.Pre reads.Post
+
+fit : (c : Unrefused) → let a = c .before .before .before .before .before .before .before .before .before .before .before .args in (a .source < 256) × (a .destination < 256)
+fit c =
     let n = c .before .before in
     let m = n .before .before in
     let a = pairing-accepted _ _ (m .before .before .pair .ensures) _ _ _ (m .pairing .given .1) in
     let few = few-routers _ (a .0 .new-accepted) _ (a .2) in
-    omega (arith, numbers-fit _ _ _ few _ (n .numbers-are-bad .ensures) _ _ (c .before .packet-number .ensures) (c .if1 .left))
+    numbers-fit _ _ _ few _ (n .numbers-are-bad .ensures) _ _ (c .before .packet-number .ensures) (c .if1 .left)
+
+cast-path-in : tie.Need-cast-path-in
+cast-path-in c = omega (arith, fit c)
 
 cast-path-in-2 : tie.Need-cast-path-in-2
-cast-path-in-2 c =
-    let n = c .before .before in
-    let m = n .before .before in
-    let a = pairing-accepted _ _ (m .before .before .pair .ensures) _ _ _ (m .pairing .given .1) in
-    let few = few-routers _ (a .0 .new-accepted) _ (a .2) in
-    omega (arith, numbers-fit _ _ _ few _ (n .numbers-are-bad .ensures) _ _ (c .before .packet-number .ensures) (c .if1 .left))
+cast-path-in-2 c = omega (arith, fit c)
 
 path-in-requires : tie.Need-path-in-requires
 path-in-requires c κs =
