@@ -102,7 +102,7 @@ module _ (guides views : List ℕ) (d i k hops : ℕ) where
 
   module _ (left : ℕ) (lent : List ℕ) (r : ℕ) where
     abbrev Gone : List ℕ → Type 0
-    Gone trace = Leaves guides views d i k hops left lent r trace
+    Gone after = Leaves guides views d i k hops left lent r after
 
     -- with no hop left the packet is lost here
     pub none-left : left ≡ 0 → r ≡ ending-word (record { outcome = Lost; router = i; hops = hops }) → Gone lent
@@ -120,10 +120,10 @@ module _ (guides views : List ℕ) (d i k hops : ℕ) where
           go (suc left) = rw (in-part guides 128 i b, c, add-zero hops) (e, refl)
 
       -- one that carries is crossed
-      pub left-over : has (getD guides (128 + i) 0) k ≡ true → left ≢ 0 → (trace : List ℕ)
-          → (r ≡ ending-word (ending-after (hops + 1) (there (left - 1)))) × (trace ≡ sets lent (hops + 1) (there (left - 1) .trace)) → Gone trace
+      pub left-over : has (getD guides (128 + i) 0) k ≡ true → left ≢ 0 → (after : List ℕ)
+          → (r ≡ ending-word (ending-after (hops + 1) (there (left - 1)))) × (after ≡ sets lent (hops + 1) (there (left - 1) .trace)) → Gone after
       unfolding leaving site-over
-      left-over c n trace (p, q) = rw (over left n) (p ∙ ap ending-word (one-more hops i (there (left - 1))), q)
+      left-over c n after (p, q) = rw (over left n) (p ∙ ap ending-word (one-more hops i (there (left - 1))), q)
         where
           over : (left : ℕ) → left ≢ 0 → gone left ≡ crossed i (there (left - 1))
           over zero n = absurd (n refl)
@@ -149,7 +149,7 @@ module _ (guides views : List ℕ) (d i j hops : ℕ) where
     -- this router is written
     module _ (left : ℕ) (lent visited : List ℕ) (v : visited ≡ set lent hops i) where
       abbrev Arrived : ℕ → List ℕ → Type 0
-      Arrived r trace = Arrives guides views d i j hops left lent r trace
+      Arrived r after = Arrives guides views d i j hops left lent r after
 
       -- the packet ends here
       ends-as : (o : Outcome) → come left ≡ ended o i → (r : ℕ) → r ≡ ending-word (record { outcome = outcome-case o; router = i; hops = hops }) → Arrived r visited
@@ -169,9 +169,9 @@ module _ (guides views : List ℕ) (d i j hops : ℕ) where
       no-route-here e = ends-as unrouted (applied left ∙ rw e)
 
       -- or leaves for k
-      pub leaves-here : (k : ℕ) → s ≡ Forward k → (r : ℕ) (trace : List ℕ) → Leaves guides views d i k hops left visited r trace → Arrived r trace
+      pub leaves-here : (k : ℕ) → s ≡ Forward k → (r : ℕ) (after : List ℕ) → Leaves guides views d i k hops left visited r after → Arrived r after
       unfolding entry-told
-      leaves-here k e r trace (p, t) = rw leaves (p, rw (from-here guides views d i k hops left) (rw (add-one hops, v) at t))
+      leaves-here k e r after (p, t) = rw leaves (p, rw (from-here guides views d i k hops left) (rw (add-one hops, v) at t))
         where
           leaves : come left ≡ leaving guides views d i k hops left
           leaves = applied left ∙ rw e

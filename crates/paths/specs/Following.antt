@@ -95,9 +95,9 @@ outcome-told Lost = lost
 unfoldable pub ending-after : ℕ → Path → Ending
 ending-after hops path = record { outcome = outcome-case (path .outcome); router = path .router; hops = hops + path .hops }
 
--- the trace with the visited routers in front; behind them stands what was lent
+-- the visited routers in front; behind them stands what was lent
 abbrev pub written : Path → List ℕ → List ℕ
-written path trace = path .trace ++ drop (length (path .trace)) trace
+written path lent = path .trace ++ drop (length (path .trace)) lent
 
 -- an ending as one number: the router, the hops and the outcome's code, a byte each
 unfoldable pub ending-word : Ending → ℕ
@@ -110,7 +110,7 @@ ending-in word = record { outcome = outcome-of (word / 65536 % 256); router = wo
 -- ---- arriving and leaving
 
 -- The packet stands at router i. All that is asked: the guides are 64-bit numbers, as their type says, i is one of 64 routers, and so few hops are
--- made that the 64 places of the list and of the trace are enough.
+-- made that the 64 places for views and for visited routers are enough.
 pub record Standing (guides : List ℕ) (i hops left : ℕ) : Type 0 where
   pub fit : (k : ℕ) → getD guides k 0 < 2 ^ 64
   pub router : i < 64
@@ -126,15 +126,15 @@ module _ (guides views : List ℕ) (d : ℕ) where
   leaving i k hops zero = ended lost i
   leaving i k hops (suc left) = leave (site-over d guides) i k (arriving k i (suc hops) left)
 
-  -- what is told, as one number, and what the trace holds from this router on
+  -- what is told, as one number, and what the places for visited routers hold from this router on
   abbrev pub Arrives : ℕ → ℕ → ℕ → ℕ → List ℕ → ℕ → List ℕ → Type 0
-  Arrives i j hops left trace r after =
-      (r ≡ ending-word (ending-after hops (arriving i j hops left))) × (after ≡ sets trace hops (arriving i j hops left .trace))
+  Arrives i j hops left visited r after =
+      (r ≡ ending-word (ending-after hops (arriving i j hops left))) × (after ≡ sets visited hops (arriving i j hops left .trace))
 
-  -- what is told, as one number, and what the trace holds behind this router, which stands in it
+  -- what is told, as one number, and what those places hold behind this router, which is written already
   abbrev pub Leaves : ℕ → ℕ → ℕ → ℕ → List ℕ → ℕ → List ℕ → Type 0
-  Leaves i k hops left trace r after =
-      (r ≡ ending-word (ending-after hops (leaving i k hops left))) × (after ≡ sets trace (hops + 1) (drop 1 (leaving i k hops left .trace)))
+  Leaves i k hops left visited r after =
+      (r ≡ ending-word (ending-after hops (leaving i k hops left))) × (after ≡ sets visited (hops + 1) (drop 1 (leaving i k hops left .trace)))
 
 -- ---- one packet
 

@@ -141,11 +141,11 @@ fn entry_at<'a>(
 }
 
 // The router is written behind those that were visited before it.
-fn visit(trace: &mut [u8; 64], hops: u8, router: u8)
+fn visit(visited: &mut [u8; 64], hops: u8, router: u8)
     requires { ⌜ hops < 64 ⌝ }
-    ensures { λ _. ⌜ now (trace .exit) ≡ set (now (trace .entry)) hops router ⌝ }
+    ensures { λ _. ⌜ now (visited .exit) ≡ set (now (visited .entry)) hops router ⌝ }
 {
-    trace[hops as usize] = router;
+    visited[hops as usize] = router;
 }
 
 // An ending as one number: the router, the hops and the outcome's code, a byte each.
@@ -193,19 +193,19 @@ fn arrive<'a>(
     previous: u8,
     hops: u8,
     left: u8,
-    trace: &mut [u8; 64],
+    visited: &mut [u8; 64],
 ) -> u32
     requires { ⌜ Standing (now guides) router hops left ⌝ }
     ensures { λ r. ⌜ Arrives (now (guides .entry)) (now (views .entry)) destination
-        router previous hops left (now (trace .entry)) r (now (trace .exit)) ⌝ }
+        router previous hops left (now (visited .entry)) r (now (visited .exit)) ⌝ }
 {
-    visit(trace, hops, router);
+    visit(visited, hops, router);
     let entry = entry_at(guides, views, destination, router, previous, hops);
     match entry {
         Entry::Deliver => ending_word(Outcome::Delivered, router, hops),
         Entry::Discard => ending_word(Outcome::Discarded, router, hops),
         Entry::NoRoute => ending_word(Outcome::NoRoute, router, hops),
-        Entry::Forward(hop) => leave(guides, views, destination, router, hop, hops, left, trace),
+        Entry::Forward(hop) => leave(guides, views, destination, router, hop, hops, left, visited),
     }
 }
 
@@ -218,11 +218,11 @@ fn leave<'a>(
     hop: u8,
     hops: u8,
     left: u8,
-    trace: &mut [u8; 64],
+    visited: &mut [u8; 64],
 ) -> u32
     requires { ⌜ Standing (now guides) router hops left ⌝ }
     ensures { λ r. ⌜ Leaves (now (guides .entry)) (now (views .entry)) destination
-        router hop hops left (now (trace .entry)) r (now (trace .exit)) ⌝ }
+        router hop hops left (now (visited .entry)) r (now (visited .exit)) ⌝ }
 {
     if left == 0 {
         return ending_word(Outcome::Lost, router, hops);
@@ -236,7 +236,7 @@ fn leave<'a>(
             router,
             hops + 1,
             left - 1,
-            trace,
+            visited,
         );
     }
     ending_word(Outcome::Lost, router, hops)
