@@ -8,7 +8,7 @@ use libc::STDIN_FILENO;
 pub const MOST_RECORDS: u32 = 1000000;
 
 // A record's header. At the end of the file the letter is 0.
-#[derive(Drop)]
+#[derive(Clone, Copy)]
 pub struct Question {
     pub letter: u8,
     pub load: usize,

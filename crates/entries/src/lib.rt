@@ -13,7 +13,7 @@ use tables::{Outline, Reading, read};
 use webs::web_of;
 
 // The entry of a router: what it does with a packet.
-#[derive(Drop)]
+#[derive(Clone, Copy)]
 pub enum Entry {
     Deliver,
     Discard,
@@ -22,7 +22,7 @@ pub enum Entry {
 }
 
 // The entry question's answer: the entry, or a number and a place.
-#[derive(Drop)]
+#[derive(Clone, Copy)]
 pub enum EntryAnswer {
     Given(Entry),
     Refused { number: u8, place: usize },

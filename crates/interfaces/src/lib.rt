@@ -17,7 +17,7 @@ use tables::{Outline, Reading, read};
 use webs::web_of;
 
 // The answer: how many bytes are written, or a number and a place.
-#[derive(Drop)]
+#[derive(Clone, Copy)]
 pub enum Writing {
     Written(u16),
     Refused { number: u8, place: usize },

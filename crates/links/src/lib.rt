@@ -7,7 +7,7 @@ use records::{LINK, joined};
 use tables::{Reading, read};
 
 // A link and the place behind its record, or no more.
-#[derive(Drop)]
+#[derive(Clone, Copy)]
 pub enum NextLink {
     One {
         a: u8,

@@ -9,7 +9,7 @@ use records::NAME;
 use tables::{Reading, read};
 
 // The companion's answer: the part that the name is, or unnamed, or the refusal. Table 0 is the old or only one, 1 the new.
-#[derive(Drop)]
+#[derive(Clone, Copy)]
 pub enum Naming {
     Named {
         table: u8,

@@ -12,7 +12,7 @@ use records::joined;
 use tables::{Outline, Reading, read};
 
 // The answer: how many links differ, 0 or 1, and what each table holds; or a number, which table (0 the old, 1 the new) and a place.
-#[derive(Drop)]
+#[derive(Clone, Copy)]
 pub enum Pairing {
     Accepted {
         differ: u8,
@@ -37,7 +37,7 @@ const TOO_DIFFERENT: Pairing = Pairing::Refused {
 const NO_PAIR: u32 = 65536;
 
 // The link in front of those that are not compared yet: its pair as one number, its weight, and the place behind it.
-#[derive(Drop)]
+#[derive(Clone, Copy)]
 struct Front {
     pair: u32,
     weight: u16,

@@ -17,7 +17,7 @@ use tables::Outline;
 use webs::web_of;
 
 // How a packet ended.
-#[derive(Drop)]
+#[derive(Clone, Copy)]
 pub enum Outcome {
     Delivered,
     Discarded,
@@ -26,7 +26,7 @@ pub enum Outcome {
 }
 
 // How a packet ended, at which router, and how many links it really crossed.
-#[derive(Drop)]
+#[derive(Clone, Copy)]
 pub struct Ending {
     pub outcome: Outcome,
     pub router: u8,
@@ -34,7 +34,7 @@ pub struct Ending {
 }
 
 // The path question's answer: the ending, or a number, which table (0 the old, 1 the new) and a place.
-#[derive(Drop)]
+#[derive(Clone, Copy)]
 pub enum PathAnswer {
     Ended(Ending),
     Refused { number: u8, table: u8, place: usize },

@@ -4,7 +4,7 @@ use links::{LinkReader, NextLink, next_link, read_links};
 use tables::{Reading, read};
 
 // What a reader tells, and its place afterwards.
-#[derive(Drop)]
+#[derive(Clone, Copy)]
 struct Told {
     next: NextLink,
     place: usize,

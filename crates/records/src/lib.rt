@@ -15,7 +15,7 @@ pub const LINK: u8 = 0x04;
 pub const END: u8 = 0x7F;
 
 // What is kept of the records before: N, the last tag, the last router or pair, the number of links. All are 0 before the first record.
-#[derive(Drop)]
+#[derive(Clone, Copy)]
 pub struct Kept {
     pub routers: u8,
     pub tag: u8,
@@ -24,7 +24,7 @@ pub struct Kept {
 }
 
 // The reading step's answer: the next record and where it ends, or a number and a place.
-#[derive(Drop)]
+#[derive(Clone, Copy)]
 pub enum Step {
     Record { tag: u8, end: usize },
     Refused { number: u8, place: usize },

@@ -18,7 +18,7 @@ use tables::{Outline, Reading, read};
 use webs::{Web, web_of};
 
 // The fill's answer: N, or a number and a place.
-#[derive(Drop)]
+#[derive(Clone, Copy)]
 pub enum Filling {
     Filled(u8),
     Refused { number: u8, place: usize },

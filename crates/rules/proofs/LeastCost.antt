@@ -28,12 +28,12 @@ module _ {w : ℕ → ℕ → ℕ} where
       rw add-zero at r
 
   -- a route, and a second from where it ends
-  join : {i k d c e : ℕ} → Route w k i c → Route w d k e → Route w d i (c + e)
+  join : {k d i c e : ℕ} → Route w k i c → Route w d k e → Route w d i (c + e)
   join arrived r = rw zero-add r
   join (via l q) r = rw add_assoc (via l (join q r))
 
   -- a route the other way
-  back : BothWays w → {i d c : ℕ} → Route w d i c → Route w i d c
+  back : BothWays w → {d i c : ℕ} → Route w d i c → Route w i d c
   back h arrived = arrived
   back h (via {i} {k} {c} l r) =
       let s : Route w i k (w i k) = rw (h k i) at (over_link {i = k} {k = i} (omega (arith, h i k))) in

@@ -144,7 +144,7 @@ judged_cut {kept} {place} {left} (goes g e r) n m (suc most) h l =
       judge_from,
     )
     (ap (followed_by (record_in place left))
-    (judged_cut r (near_next n left g e) (m - (3 + size_in left)) most (omega (arith, near n)) (omega (arith, g.whole, length-drop (3 + size_in left) left))))
+    (judged_cut {kept = keep kept (record_in place left)} r (near_next n left g e) (m - (3 + size_in left)) most (omega (arith, near n)) (omega (arith, g.whole, length-drop (3 + size_in left) left))))
 
 -- ---- what is read
 

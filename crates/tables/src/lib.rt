@@ -7,14 +7,14 @@ ghost use Rattle.tables.specs.Readings.{record_with, refusal_in, JudgedTo, Reads
 use records::{END, Kept, LINK, NAME, ROUTERS, Step, joined, next_record};
 
 // A table up to its end record: N, how many links, and where the table ends; or a number and a place.
-#[derive(Drop)]
+#[derive(Clone, Copy)]
 pub enum Judged {
     Accepted { routers: u8, links: u16, end: usize },
     Refused { number: u8, place: usize },
 }
 
 // What an accepted table holds: N, how many links, and where the links start.
-#[derive(Drop)]
+#[derive(Clone, Copy)]
 pub struct Outline {
     pub routers: u8,
     pub links: u16,
@@ -22,7 +22,7 @@ pub struct Outline {
 }
 
 // The reading question's answer.
-#[derive(Drop)]
+#[derive(Clone, Copy)]
 pub enum Reading {
     Accepted(Outline),
     Refused { number: u8, place: usize },

@@ -9,7 +9,7 @@ use sets::no_sets;
 use tables::Outline;
 
 // The links of a table as an adjacency matrix: 64 rows of 64 weights, 0 for no link; and for each router its neighbours, as a 64-bit number.
-#[derive(Drop)]
+#[derive(Clone, Copy)]
 pub struct Web {
     pub near: [u64; 64],
     pub weights: [u16; 4096],
