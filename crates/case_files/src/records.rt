@@ -1,7 +1,7 @@
 // The records of a question file, and the loads that are held.
 ghost use Rattle.std.specs.Counts.{IsPrefixLen};
 ghost use Rattle.std.specs.Io.{ReadsAtMost};
-ghost use Rattle.std.specs.Prelude.{◌≤◌, length};
+ghost use Rattle.std.specs.Prelude.{◌≤◌, length, IsTrue, OnErr};
 
 use std::io;
 use std::io::Read;
@@ -116,7 +116,8 @@ pub fn held<R: Read>(
     held: usize,
     size: usize,
 ) -> io::Result<usize>
-    ensures { ReadsAtMost result array.new }
+    ensures in_bounds { ReadsAtMost result array.new }
+    ensures err_only_reading { OnErr result (IsTrue comes) }
 {
     if !comes {
         return Ok(within(array, held));
