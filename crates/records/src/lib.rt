@@ -1,4 +1,6 @@
 // One record of a table: the tests of tag, length and contents, the inner reader, the reading step.
+#![tactic(auto)]
+
 ghost use Rattle.std.specs.Prelude.{◌≡◌, true, ◌&&◌, ◌+◌, ◌≤◌, length, drop};
 ghost use Rattle.rules.specs.Words.{◌=?◌, ◌≤?◌, every};
 ghost use Rattle.rules.specs.Layout.{tag_name, tag_link};

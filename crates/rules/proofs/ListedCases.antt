@@ -11,7 +11,7 @@ use lib.ListN.{length, drop}
 use borrow.Author.Tests.{ltb-true, lt-ltb, le-ltb}
 use Rattle.rules.specs.Words.{pick}
 use Rattle.rules.specs.Layout.{tag_end}
-use Rattle.rules.specs.Table.{byte, Record, Kept, keep, Step, good, bad, record_in, Judged, accepted, refused, followed_by, judge, nothing_behind, read, number_of, place_of}
+use Rattle.rules.specs.Table.{byte, Record, Kept, keep, Step, bad, record_in, Judged, accepted, refused, followed_by, judge, nothing_behind, read, number_of, place_of}
 use Rattle.rules.specs.ListedCases.{Allowed, for_routers, for_name, for_link, for_end, routers_told, FirstGiven, NoneGiven, listed_cases, GoodBefore, at_start, one_more, FirstBad, EndsAt, RefusedAt}
 use Rattle.rules.specs.Demand1.{InListedCases, InNoOthers, PlacesWithin}
 use Rattle.rules.proofs.AtPlace.{left_behind, whole_there}

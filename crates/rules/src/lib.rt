@@ -1,1 +1,2 @@
 // Document 01 as definitions, and what is proved of them: no function.
+#![tactic(auto)]

@@ -1,4 +1,6 @@
 // Reading a whole table: judging up to the end record, the reading question.
+#![tactic(auto)]
+
 ghost use Rattle.std.specs.Prelude.{◌≡◌, true, ◌<◌, length};
 ghost use Rattle.rules.specs.Table.{length_allowed, key, keep};
 ghost use Rattle.records.specs.Steps.{kept_of};

@@ -1,0 +1,47 @@
+-- `tables::judge` meets its contract. The loop keeps what judging from the place on tells of the whole; each record ends further on.
+-- Assumes nothing.
+-- a turn in which the step gave a record, and what it found
+use mathlib.Core.Path.{◌∙◌, ap}
+use native.Mathlib.Omega.{arith}
+use Rattle.tables.proofs.Asked.{judged_as}
+use Rattle.tables.proofs.Turns.{found, found_inside, found_length, found_few, told_from, told_first, told_refused, told_ended, told_next}
+use Rattle.tables.proofs.judge.Goals as goal
+
+pub loop-tag-init : goal.loop-tag-init
+loop-tag-init c = (omega arith, told_first _)
+
+pub returns-in_default : goal.returns-in_default
+returns-in_default c =
+    judged_as _ _ (
+    c.refusal.ensures
+    ∙ told_refused c.args.table.now c.loop-tag.place _ _ c.in_default.not-Record c.next_record-step.ensures
+    ∙ c.loop-tag.invariant.1
+    )
+
+pub returns-then-tag-eq-END : goal.returns-then-tag-eq-END
+returns-then-tag-eq-END c = judged_as _ _ (told_ended _ _ _ _ _ (found _ _ _ _ _ _ c.in-Record.is c.next_record-step.ensures) c.if-tag-eq-END.true ∙ c.loop-tag.invariant.1)
+
+pub overflow_add-place : goal.overflow_add-place
+overflow_add-place c = omega (arith, found_inside _ _ _ _ _ (found _ _ _ _ _ _ c.in-Record.is c.next_record-step.ensures))
+
+pub slice_bounds-kept_behind-count : goal.slice_bounds-kept_behind-count
+slice_bounds-kept_behind-count c = omega (arith, found_inside _ _ _ _ _ (found _ _ _ _ _ _ c.in-Record.is c.next_record-step.ensures))
+
+pub slice_bounds-kept_behind-start : goal.slice_bounds-kept_behind-start
+slice_bounds-kept_behind-start c = omega (arith, found_inside _ _ _ _ _ (found _ _ _ _ _ _ c.in-Record.is c.next_record-step.ensures))
+
+pub slice_bounds-kept_behind-end : goal.slice_bounds-kept_behind-end
+slice_bounds-kept_behind-end c = omega (arith, found_inside _ _ _ _ _ (found _ _ _ _ _ _ c.in-Record.is c.next_record-step.ensures))
+
+pub kept_behind-kept-requires : goal.kept_behind-kept-requires
+kept_behind-kept-requires c = (found_length _ _ _ _ _ (found _ _ _ _ _ _ c.in-Record.is c.next_record-step.ensures), omega (arith, c.loop-tag.invariant.0))
+
+pub loop-tag-smaller : goal.loop-tag-smaller
+loop-tag-smaller c = omega (arith, found_inside _ _ _ _ _ (found _ _ _ _ _ _ c.in-Record.is c.next_record-step.ensures))
+
+pub loop-tag-preserved : goal.loop-tag-preserved
+loop-tag-preserved c =
+    let inv = c.loop-tag.invariant in (
+      omega (arith, found_few _ _ _ _ _ (found _ _ _ _ _ _ c.in-Record.is c.next_record-step.ensures) inv.0, ap (λ k. k.links) c.kept_behind-kept.ensures),
+      ap (told_from _ _) c.kept_behind-kept.ensures ∙ told_next _ _ _ _ _ (found _ _ _ _ _ _ c.in-Record.is c.next_record-step.ensures) c.if-tag-eq-END.false ∙ inv.1,
+    )
