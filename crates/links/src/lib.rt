@@ -1,5 +1,6 @@
 // Links of a table, one at a time.
 #![tactic(auto)]
+
 ghost use Rattle.std.specs.Prelude.{◌≡◌};
 ghost use Rattle.links.specs.Links.{Tells, TellsByNumber, place_in, reader_start};
 ghost use Rattle.links.specs.Runs.{Made, Moved};

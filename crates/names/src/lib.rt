@@ -1,5 +1,6 @@
 // The name of a router, handed back as the very bytes inside the caller's table, and the companion question.
 #![tactic(auto)]
+
 ghost use Rattle.std.specs.Prelude.{◌≡◌, ◌+◌, ◌≤◌, length};
 ghost use Rattle.rules.specs.Demand1.{IsAccepted};
 ghost use Rattle.rules.specs.NameQuestions.{name_for};

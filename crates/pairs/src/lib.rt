@@ -1,5 +1,6 @@
 // Two tables together: how many links differ, and number 8.
 #![tactic(auto)]
+
 ghost use Rattle.std.specs.Prelude.{◌≡◌};
 ghost use Rattle.rules.specs.Table.{says};
 ghost use Rattle.rules.specs.Pairs.{differing};

@@ -22,8 +22,6 @@ use Rattle.rules.proofs.Records.{tag_order, length_contents}
 use Rattle.records.specs.Steps.{record_from, step_of}
 use Rattle.records.specs.declared.Step.{Step as StepHere}
 use Rattle.records.specs.declared.Step.TheVariants as here
-use Rattle.records.specs.contracts.Step.{enum}
-use denote.Enum.Declared.{tag_of, declared}
 use Rattle.tables.specs.Readings.{record_with, refusal_in}
 use Rattle.tables.specs.declared.Judged.{Judged as JudgedHere}
 use Rattle.tables.specs.declared.Judged.TheVariants.{Accepted, Refused}
@@ -148,9 +146,9 @@ module _ (bytes : List ℕ) (place : ℕ) (kept : Kept) where
   -- ---- a turn of judging
 
   -- the step refuses, and so does judging
-  pub told_refused : (s : StepHere) → tag_of (declared enum) s ≡ 1 → step_of bytes place s ≡ step kept place left → refusal_in s ≡ told_from bytes place kept
+  pub told_refused : (s : StepHere) → ((tag end : ℕ) → s ≢ here.Record tag end) → step_of bytes place s ≡ step kept place left → refusal_in s ≡ told_from bytes place kept
   unfolding step_of told_from told refusal_in
-  told_refused (here.Record tag end) t e = absurd (omega (arith, t))
+  told_refused (here.Record tag end) t e = absurd (t tag end refl)
   told_refused (here.Refused number at) t e = sym (ap (told kept) (judge_stops (length left) kept place number at left (sym e)))
 
   module _ (tag end : ℕ) (f : Found bytes place kept tag end) where

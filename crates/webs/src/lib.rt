@@ -1,5 +1,6 @@
 // A table's links laid out as a web: which routers each router is linked to, and the weights.
 #![tactic(auto)]
+
 ghost use Rattle.std.specs.Prelude.{◌≡◌, replicate};
 ghost use Rattle.rules.specs.Table.{link_fits};
 ghost use Rattle.links.specs.Links.{next_numbers};
