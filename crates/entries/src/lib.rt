@@ -1,5 +1,6 @@
 // What a router does with a packet: the entry by a next-hop set, its code, and the entry question.
 #![tactic(auto)]
+
 ghost use Rattle.std.specs.Prelude.{◌≡◌, ◌<◌};
 ghost use Rattle.rules.specs.Demand1.{IsAccepted};
 ghost use Rattle.rules.specs.Answers.{number_in};

@@ -1,5 +1,6 @@
 // The listing, line by line into a lent page.
 #![tactic(auto)]
+
 ghost use Rattle.std.specs.Prelude.{◌≡◌, ◌≢◌, [], ◌∷◌, map, ◌+◌, ◌-◌, ◌≤◌, min, length};
 ghost use Rattle.std.specs.Int.Bits.{bit_and};
 ghost use Rattle.std.specs.Int.Count.{count_trailing_zeros};

@@ -1,7 +1,7 @@
 -- The companion's answers and the parts handed back, case by case.
 -- Assumes nothing.
 use mathlib.Core.Path.{◌≡◌, refl, sym, ◌∙◌, ap, subst}
-use mathlib.Core.Logic.{◌⊎◌, inl, inr}
+use mathlib.Core.Logic.{◌≢◌, ◌⊎◌, inl, inr}
 use mathlib.Core.Bool.{Bool}
 use mathlib.Core.Option.{Option, none, some}
 use mathlib.Core.List.{List, [], ◌∷◌}
@@ -11,8 +11,6 @@ use lib.Dec.{eqb}
 use lib.ListN.{length, take, drop}
 use borrow.Author.Tests.{eq-eqb, le-leb, lt-leb}
 use denote.Ref.{Bor}
-use types.Run.{OneOf}
-use denote.Enum.Declared.{tag_of, declared}
 use Rattle.rules.specs.Words.{Line, pick, All}
 use Rattle.rules.specs.Layout.{Name}
 use Rattle.rules.specs.Table.{says}
@@ -27,7 +25,6 @@ use Rattle.names.specs.Namings.{naming_numbers, NamesIn, NamesInTwo, naming_of, 
 use Rattle.names.specs.Parts.{PartAt, IsPart, IsPartOfTwo, GivesName, GivesNameOfTwo}
 use Rattle.names.specs.declared.Naming.{Naming}
 use Rattle.names.specs.declared.Naming.TheVariants.{Named, Unnamed, Refused}
-use Rattle.names.specs.contracts.Naming.{enum}
 use Rattle.tables.specs.declared.Outline.{Outline}
 use Rattle.tables.specs.declared.Reading.{Reading}
 use Rattle.tables.specs.declared.Reading.TheVariants as reading
@@ -37,24 +34,15 @@ use Rattle.tables.proofs.Asked.{reading_accepted, reading_refused, own_routers}
 -- ---- the name in the new table, or else the one in the old
 
 -- not unnamed in the new table
-pub first_named : (n : Naming) (in-old in-new : Option Name) → n ≡ naming_of 1 in-new → OneOf (0 ∷ 2 ∷ []) (tag_of (declared enum) n)
-    → n ≡ naming_of_two in-old in-new
+pub first_named : (n : Naming) (in-old in-new : Option Name) → n ≡ naming_of 1 in-new → n ≢ Unnamed → n ≡ naming_of_two in-old in-new
 unfolding naming_of naming_of_two
 first_named n in-old (some m) e t = e
-first_named n in-old none e t = absurd (go t)
-  where
-    unnamed : tag_of (declared enum) n ≡ 1
-    unnamed = ap (tag_of (declared enum)) e
-
-    go : OneOf (0 ∷ 2 ∷ []) (tag_of (declared enum) n) → ⊥
-    go (inl z) = omega (arith, unnamed)
-    go (inr z) = omega (arith, unnamed)
+first_named n in-old none e t = absurd (t e)
 
 -- unnamed in the new table
-pub then_old : (n r : Naming) (in-old in-new : Option Name) → n ≡ naming_of 1 in-new → tag_of (declared enum) n ≡ 1 → r ≡ naming_of 0 in-old
-    → r ≡ naming_of_two in-old in-new
+pub then_old : (n r : Naming) (in-old in-new : Option Name) → n ≡ naming_of 1 in-new → n ≡ Unnamed → r ≡ naming_of 0 in-old → r ≡ naming_of_two in-old in-new
 unfolding naming_of naming_of_two
-then_old n r in-old (some m) e t q = absurd (omega (arith, sym t ∙ ap (tag_of (declared enum)) e))
+then_old n r in-old (some m) e t q = cc
 then_old n r in-old none e t q = q
 
 -- ---- the companion's answer for one table
@@ -172,10 +160,9 @@ module _ (s : Bor (List ℕ)) (router : ℕ) where
   asked = record { table = s.now; router = router }
 
   -- where the answer is no name, the part is the empty one
-  empty_so : (n : Naming) → NamesIn asked n → OneOf (1 ∷ 2 ∷ []) (tag_of (declared enum) n) → name_part asked ≡ empty_part 0 s.now
+  empty_so : (n : Naming) → NamesIn asked n → ((table place size : ℕ) → n ≢ Named table place size) → name_part asked ≡ empty_part 0 s.now
   unfolding naming_numbers
-  empty_so (Named table place size) p (inl t) = absurd (omega arith)
-  empty_so (Named table place size) p (inr t) = absurd (omega arith)
+  empty_so (Named table place size) p t = absurd (t table place size refl)
   empty_so Unnamed (e, p) t = go (name_for s.now router) refl
     where
       none_refused : Answered (name_answer asked)
@@ -187,7 +174,7 @@ module _ (s : Bor (List ℕ)) (router : ℕ) where
   empty_so (Refused number table place) (e, p) t = (name_proved asked).when_refused (λ z. p (ap (λ a. a.refusal.number) e ∙ z))
 
   module _ (n : Naming) (p : NamesIn asked n) where
-    pub in_empty : (r : Bor (List ℕ)) → OneOf (1 ∷ 2 ∷ []) (tag_of (declared enum) n) → PartAt s (length s.now) 0 r → GivesName s router r
+    pub in_empty : (r : Bor (List ℕ)) → ((table place size : ℕ) → n ≢ Named table place size) → PartAt s (length s.now) 0 r → GivesName s router r
     in_empty r t h = subst (λ part. IsPart s part r) (sym (empty_so n p t)) h
 
     module _ (table place size : ℕ) (e : n ≡ Named table place size) where
@@ -207,10 +194,9 @@ module _ (old new : Bor (List ℕ)) (router : ℕ) where
   abbrev asked_of_two : TwoNamesInputs
   asked_of_two = record { old = old.now; new = new.now; router = router }
 
-  empty_of_two : (n : Naming) → NamesInTwo asked_of_two n → OneOf (1 ∷ 2 ∷ []) (tag_of (declared enum) n) → two_names_part asked_of_two ≡ empty_part 1 new.now
+  empty_of_two : (n : Naming) → NamesInTwo asked_of_two n → ((table place size : ℕ) → n ≢ Named table place size) → two_names_part asked_of_two ≡ empty_part 1 new.now
   unfolding naming_numbers
-  empty_of_two (Named table place size) p (inl t) = absurd (omega arith)
-  empty_of_two (Named table place size) p (inr t) = absurd (omega arith)
+  empty_of_two (Named table place size) p t = absurd (t table place size refl)
   empty_of_two Unnamed (e, p) t = go (name_for new.now router) (name_for old.now router) refl refl
     where
       none_refused : Answered (two_names_answer asked_of_two)
@@ -223,7 +209,7 @@ module _ (old new : Bor (List ℕ)) (router : ℕ) where
   empty_of_two (Refused number table place) (e, p) t = (two_names_proved asked_of_two).when_refused (λ z. p (ap (λ a. a.refusal.number) e ∙ z))
 
   module _ (n : Naming) (p : NamesInTwo asked_of_two n) where
-    pub two_empty : (r : Bor (List ℕ)) → OneOf (1 ∷ 2 ∷ []) (tag_of (declared enum) n) → PartAt new (length new.now) 0 r → GivesNameOfTwo old new router r
+    pub two_empty : (r : Bor (List ℕ)) → ((table place size : ℕ) → n ≢ Named table place size) → PartAt new (length new.now) 0 r → GivesNameOfTwo old new router r
     two_empty r t h = subst (λ part. IsPartOfTwo old new part r) (sym (empty_of_two n p t)) h
 
     module _ (table place size : ℕ) (e : n ≡ Named table place size) (first : Bool) (q : eqb table 0 ≡ first) where

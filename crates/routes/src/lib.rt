@@ -1,5 +1,6 @@
 // Next-hop sets over a web, and the fill: costs and sets of one destination.
 #![tactic(auto)]
+
 ghost use Rattle.std.specs.Prelude.{◌≡◌, ◌++◌, ◌^◌, ◌<◌, ◌≤◌, length, take, drop};
 ghost use Rattle.rules.specs.Words.{pick};
 ghost use Rattle.rules.specs.Table.{says};

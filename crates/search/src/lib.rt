@@ -1,5 +1,6 @@
 // Searching a web from one router: the costs to all others, and its next-hop sets for all destinations.
 #![tactic(auto)]
+
 ghost use Rattle.std.specs.Prelude.{◌≡◌, ◌≢◌, ◌+◌, ◌^◌, ◌<◌, min, get_or, set, replicate};
 ghost use Rattle.rules.specs.Words.{pick};
 ghost use Rattle.webs.specs.Webs.{weight_over, IsWeb};

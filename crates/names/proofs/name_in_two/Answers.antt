@@ -6,7 +6,7 @@ use Rattle.names.proofs.Namings.{two_empty, two_within, two_part}
 use Rattle.names.proofs.name_in_two.Goals as goal
 
 pub returns-in_default : goal.returns-in_default
-returns-in_default c = two_empty _ _ _ _ c.naming_in_two-naming.ensures _ c.in_default.not-X c.part_at.ensures
+returns-in_default c = two_empty _ _ _ _ c.naming_in_two-naming.ensures _ c.in_default.not-Named c.part_at.ensures
 
 pub part_at-requires-then-table-eq0 : goal.part_at-requires-then-table-eq0
 part_at-requires-then-table-eq0 c =
