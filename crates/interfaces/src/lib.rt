@@ -1,5 +1,6 @@
 // The full interface table of a router: row 255 first, then a row for each previous hop, with a column for each destination.
 #![tactic(auto)]
+
 ghost use Rattle.std.specs.Prelude.{◌≡◌, ◌++◌, map, ◌≤◌, ◌<◌, length, get_or, drop, replicate};
 ghost use Rattle.rules.specs.Words.{pick, below};
 ghost use Rattle.rules.specs.Table.{says};

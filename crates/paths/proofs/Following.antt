@@ -12,7 +12,6 @@ use native.Mathlib.Omega.{arith}
 use lib.Dec.{eqb}
 use lib.ListN.{length, get_or, take, drop, set, replicate, length-append, length-drop}
 use lib.Seq.{get_or-drop, get_or-take, sets, sets-eq, take-append_seam}
-use borrow.Author.Tests.{ne_eqb}
 use Rattle.rules.specs.Words.{pick}
 use Rattle.rules.specs.NextHops.{has}
 use Rattle.rules.specs.Entries.{Entry, deliver, discard, no-route, forward, starts_here, entry_by}

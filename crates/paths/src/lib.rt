@@ -1,5 +1,6 @@
 // Following one packet from router to router: arriving and leaving take turns, and the path question.
 #![tactic(auto)]
+
 ghost use Rattle.std.specs.Prelude.{◌≡◌, ◌++◌, ◌<◌, ◌≤◌, length, take, drop, set, replicate};
 ghost use Rattle.rules.specs.Words.{◌≤?◌, every};
 ghost use Rattle.rules.specs.Paths.{entry_at, listed};

@@ -1,5 +1,6 @@
 // The C side: each question for C control programs, with its answer as one 64-bit number.
 #![tactic(auto)]
+
 ghost use Rattle.std.specs.Prelude.{◌≡◌, ◌^◌, ◌<◌};
 ghost use Rattle.tracer.specs.Packed.{refusal_bytes, naming_bytes, NamingFits, PacksRead, PacksPair, PacksFill, PacksChosen, PacksEntry, PacksInterfaces, PacksPath, PacksName, PacksTwoNames};
 
