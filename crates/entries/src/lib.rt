@@ -90,7 +90,7 @@ fn entry_number(routers: u8, router: u64, previous: u64, destination: u64) -> u8
 fn entry_in(table: &[u8], t: Outline, router: u8, previous: u8, destination: u8) -> Entry
     requires { IsAccepted table.now × (t ≡ outline_of table.now) × (destination < 64) }
     ensures { entry_told result
-        ≡ entry_asked (record { table = table.entry.now; router = router; previous = previous; destination = destination }) }
+        ≡ entry_asked (record { table = table.now; router = router; previous = previous; destination = destination }) }
 {
     let web = web_of(table, t);
     let costs = costs_from(web, destination);
@@ -100,7 +100,7 @@ fn entry_in(table: &[u8], t: Outline, router: u8, previous: u8, destination: u8)
 
 // The entry of a router for a previous hop (255: the packet starts here) and a destination.
 pub fn entry_of(table: &[u8], router: u64, previous: u64, destination: u64) -> EntryAnswer
-    ensures { Enters (record { table = table.entry.now; router = router; previous = previous; destination = destination }) result }
+    ensures { Enters (record { table = table.now; router = router; previous = previous; destination = destination }) result }
 {
     let reading = read(table);
     match reading {

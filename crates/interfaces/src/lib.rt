@@ -198,7 +198,7 @@ fn write_accepted(table: &[u8], t: Outline, router: u8, out: &mut [u8])
 
 // The full interface table of a router.
 pub fn interfaces(table: &[u8], router: u64, out: &mut [u8]) -> Writing
-    ensures { Writes (record { table = table.entry.now; router = router; out = out.old }) result out.new }
+    ensures { Writes (record { table = table.now; router = router; out = out.old }) result out.new }
 {
     let reading = read(table);
     match reading {

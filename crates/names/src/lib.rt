@@ -67,7 +67,7 @@ fn find_in_two(old: &[u8], new: &[u8], router: u8) -> Naming
 
 // The companion question for one table.
 pub fn naming_in(table: &[u8], router: u64) -> Naming
-    ensures { NamesIn (record { table = table.entry.now; router = router }) result }
+    ensures { NamesIn (record { table = table.now; router = router }) result }
 {
     let reading = read(table);
     match reading {
@@ -87,7 +87,7 @@ pub fn naming_in(table: &[u8], router: u64) -> Naming
 
 // The companion question for two tables.
 pub fn naming_in_two(old: &[u8], new: &[u8], router: u64) -> Naming
-    ensures { NamesInTwo (record { old = old.entry.now; new = new.now; router = router }) result }
+    ensures { NamesInTwo (record { old = old.now; new = new.now; router = router }) result }
 {
     let old_reading = read(old);
     match old_reading {

@@ -112,7 +112,7 @@ fn count_differing(old: &[u8], i: usize, new: &[u8], k: usize) -> u16
 // Two tables that are accepted, with what each holds: 8 for different N, or for more than one link that differs.
 fn compare(old: &[u8], o: Outline, new: &[u8], n: Outline) -> Pairing
     requires { IsAccepted old.now × IsAccepted new.now × (o ≡ outline_of old.now) × (n ≡ outline_of new.now) }
-    ensures { Pairs (record { old = old.entry.now; new = new.now }) result }
+    ensures { Pairs (record { old = old.now; new = new.now }) result }
 {
     if o.routers != n.routers {
         return TOO_DIFFERENT;
@@ -130,7 +130,7 @@ fn compare(old: &[u8], o: Outline, new: &[u8], n: Outline) -> Pairing
 
 // Two tables together: each is read, the old one first, and then they are compared.
 pub fn pair(old: &[u8], new: &[u8]) -> Pairing
-    ensures { Pairs (record { old = old.entry.now; new = new.now }) result }
+    ensures { Pairs (record { old = old.now; new = new.now }) result }
 {
     let first = read(old);
     match first {

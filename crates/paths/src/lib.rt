@@ -379,7 +379,7 @@ fn path_in(
       trace = trace.old;
     }) o n }
     ensures { AnswersPath (record {
-      old = old.entry.now;
+      old = old.now;
       new = new.now;
       source = source;
       destination = destination;
@@ -403,7 +403,7 @@ pub fn path(
     trace: &mut [u8],
 ) -> PathAnswer
     ensures { AnswersPath (record {
-      old = old.entry.now;
+      old = old.now;
       new = new.now;
       source = source;
       destination = destination;

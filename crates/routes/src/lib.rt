@@ -121,7 +121,7 @@ fn fill_number(routers: u8, destination: u64, costs: usize, sets: usize) -> u8
 
 // The fill: N costs and N sets of a destination.
 pub fn fill(table: &[u8], destination: u64, costs: &mut [u32], sets: &mut [u64]) -> Filling
-    ensures { Fills (record { table = table.entry.now; destination = destination; costs = costs.old; sets = sets.old }) result
+    ensures { Fills (record { table = table.now; destination = destination; costs = costs.old; sets = sets.old }) result
         costs.new sets.new }
 {
     let reading = read(table);

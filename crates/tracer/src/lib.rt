@@ -49,7 +49,7 @@ pub extern "C" fn tracer_read(table: &[u8]) -> u64
 // Two tables together: N in byte 0, how many links differ in byte 1.
 #[unsafe(no_mangle)]
 pub extern "C" fn tracer_pair(old: &[u8], new: &[u8]) -> u64
-    ensures { PacksPair (record { old = old.entry.now; new = new.now }) result }
+    ensures { PacksPair (record { old = old.now; new = new.now }) result }
 {
     let pairing = pair(old, new);
     match pairing {
@@ -69,7 +69,7 @@ pub extern "C" fn tracer_pair(old: &[u8], new: &[u8]) -> u64
 // The entry of a router for a previous hop (255: the packet starts here) and a destination: its code in byte 0.
 #[unsafe(no_mangle)]
 pub extern "C" fn tracer_entry(table: &[u8], router: u64, previous: u64, destination: u64) -> u64
-    ensures { PacksEntry (record { table = table.entry.now; router = router; previous = previous; destination = destination }) result }
+    ensures { PacksEntry (record { table = table.now; router = router; previous = previous; destination = destination }) result }
 {
     let answer = entry_of(table, router, previous, destination);
     match answer {
@@ -81,7 +81,7 @@ pub extern "C" fn tracer_entry(table: &[u8], router: u64, previous: u64, destina
 // The full interface table of a router, into the output: the bytes written in bytes 1 and 0.
 #[unsafe(no_mangle)]
 pub extern "C" fn tracer_interfaces(table: &[u8], router: u64, out: &mut [u8]) -> u64
-    ensures { PacksInterfaces (record { table = table.entry.now; router = router; out = out.old }) result out.new }
+    ensures { PacksInterfaces (record { table = table.now; router = router; out = out.old }) result out.new }
 {
     let writing = interfaces(table, router, out);
     match writing {
@@ -98,7 +98,7 @@ pub extern "C" fn tracer_fill(
     costs: &mut [u32],
     sets: &mut [u64],
 ) -> u64
-    ensures { PacksFill (record { table = table.entry.now; destination = destination; costs = costs.old; sets = sets.old })
+    ensures { PacksFill (record { table = table.now; destination = destination; costs = costs.old; sets = sets.old })
         result costs.new sets.new }
 {
     let filling = fill(table, destination, costs, sets);
@@ -127,7 +127,7 @@ pub extern "C" fn tracer_path(
     trace: &mut [u8],
 ) -> u64
     ensures { PacksPath (record {
-      old = old.entry.now;
+      old = old.now;
       new = new.now;
       source = source;
       destination = destination;
@@ -171,7 +171,7 @@ fn name_word(naming: Naming) -> u64
 // The name of a router in the new table, or else in the old.
 #[unsafe(no_mangle)]
 pub extern "C" fn tracer_name(old: &[u8], new: &[u8], router: u64) -> u64
-    ensures { PacksTwoNames (record { old = old.entry.now; new = new.now; router = router }) result }
+    ensures { PacksTwoNames (record { old = old.now; new = new.now; router = router }) result }
 {
     name_word(naming_in_two(old, new, router))
 }
@@ -179,7 +179,7 @@ pub extern "C" fn tracer_name(old: &[u8], new: &[u8], router: u64) -> u64
 // The name of a router in one table.
 #[unsafe(no_mangle)]
 pub extern "C" fn tracer_name_in(table: &[u8], router: u64) -> u64
-    ensures { PacksName (record { table = table.entry.now; router = router }) result }
+    ensures { PacksName (record { table = table.now; router = router }) result }
 {
     name_word(naming_in(table, router))
 }
