@@ -3,7 +3,7 @@
 
 usage: tools/respell.py     at the top of the repository, once, behind the kit's port.py
 
-A name is the repository's own where a file of some crate's specs/ or proofs/ declares it. Left as they are: a name that begins with a fact
+A name is the repository's own where a file of some crate's specs/ or proofs/ declares or binds it. Left as they are: a name that begins with a fact
 (`All-append`), what the toolchain names (goals, steps of a walk), text in strings, Rust code and comments but for what stands in backticks there.
 It stops before it writes where two names of one repository would fall together.
 """
@@ -13,7 +13,9 @@ import re
 import sys
 
 KINDS = r"(?:(?:pub|abbrev|unfoldable|data|record)\s+)*"
-DECLARED = re.compile(r"^\s*" + KINDS + r"([^\s(){}.;,\"]+)\s+(?:.*?)(?<!\S):(?!\S)")
+NAME = r"[^\s(){}.;,\":]+"
+DECLARED = re.compile(r"^\s*" + KINDS + rf"({NAME}(?:\s+{NAME})*)\s+(?:[({{].*?)?(?<!\S):(?!\S)")
+BOUND = re.compile(rf"[({{]({NAME}(?:\s+{NAME})*)\s+:(?!\S)")
 WORD = re.compile(r"[^\s(){}.;,\"\[\]⌜⌝`]+")
 
 
@@ -33,14 +35,16 @@ def own_files():
 
 
 def declared():
-    found = set()
+    found, imported, crates = set(), set(), set(os.listdir("crates"))
     for path in own_files():
         for line in open(path, encoding="utf-8"):
-            if not line.lstrip().startswith("--") and not line.startswith(("use ", "pub use ")):
-                match = DECLARED.match(line)
-                if match:
-                    found.add(match.group(1))
-    return found
+            used = re.match(r"(?:pub )?use (?:Rattle\.)?(\w+)\S*\.\{(.*)\}", line)
+            if used:
+                imported.update(set() if used[1] in crates else re.split(r", | as ", used[2]))
+            elif not line.lstrip().startswith("--"):
+                for names in DECLARED.findall(line) + BOUND.findall(line):
+                    found.update(names.split())
+    return found - imported
 
 
 def snake(name):

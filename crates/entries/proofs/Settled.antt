@@ -3,7 +3,7 @@
 use mathlib.Core.Path.{◌≡◌, refl, sym, ◌∙◌, ap}
 use Prim.Native.Nat.{ℕ}
 use Rattle.rules.specs.Words.{◌=?◌, pick}
-use Rattle.rules.specs.Entries.{Entry, deliver, discard, no-route, forward}
+use Rattle.rules.specs.Entries.{Entry, deliver, discard, no_route, forward}
 use Rattle.rules.specs.Answers.{Answer}
 use Rattle.rules.specs.EntryQuestion.{EntryInputs, entry_asked}
 use Rattle.rules.specs.Promises.{Settles}
@@ -19,7 +19,7 @@ use Rattle.entries.specs.Entries.{entry_told, entry_numbers, Decides, Codes, Own
 entry_from : Entry → EntryHere
 entry_from deliver = Deliver
 entry_from discard = Discard
-entry_from no-route = NoRoute
+entry_from no_route = NoRoute
 entry_from (forward k) = Forward k
 
 entry_again : (x : EntryHere) → entry_from (entry_told x) ≡ x

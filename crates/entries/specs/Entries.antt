@@ -2,7 +2,7 @@
 use Rattle.std.specs.Prelude.{◌≡◌, ℕ}
 use Rattle.rules.specs.Words.{◌<?◌}
 use Rattle.rules.specs.NextHops.{has, chosen}
-use Rattle.rules.specs.Entries.{Entry, deliver, discard, no-route, forward, Rules, entry_by, code}
+use Rattle.rules.specs.Entries.{Entry, deliver, discard, no_route, forward, Rules, entry_by, code}
 use Rattle.rules.specs.Answers.{Answer, answered, refused_with, IsNumber}
 use Rattle.rules.specs.EntryQuestion.{EntryInputs, entry_asked, entry_answer}
 use Rattle.entries.specs.declared.Entry.{Entry as EntryHere}
@@ -16,7 +16,7 @@ use Rattle.entries.specs.declared.EntryAnswer.TheVariants.{Given, Refused}
 unfoldable pub entry_told : EntryHere → Entry
 entry_told Deliver = deliver
 entry_told Discard = discard
-entry_told NoRoute = no-route
+entry_told NoRoute = no_route
 entry_told (Forward k) = forward k
 
 -- the rules by a next-hop set alone, with no route where it is empty, and by the previous hops whose packets are discarded

@@ -34,16 +34,16 @@ use Rattle.tables.proofs.Asked.{reading_accepted, reading_refused, own_routers}
 -- ---- the name in the new table, or else the one in the old
 
 -- not unnamed in the new table
-pub first_named : (n : Naming) (in-old in-new : Option Name) → n ≡ naming_of 1 in-new → n ≢ Unnamed → n ≡ naming_of_two in-old in-new
+pub first_named : (n : Naming) (in_old in_new : Option Name) → n ≡ naming_of 1 in_new → n ≢ Unnamed → n ≡ naming_of_two in_old in_new
 unfolding naming_of naming_of_two
-first_named n in-old (some m) e t = e
-first_named n in-old none e t = absurd (t e)
+first_named n in_old (some m) e t = e
+first_named n in_old none e t = absurd (t e)
 
 -- unnamed in the new table
-pub then_old : (n r : Naming) (in-old in-new : Option Name) → n ≡ naming_of 1 in-new → n ≡ Unnamed → r ≡ naming_of 0 in-old → r ≡ naming_of_two in-old in-new
+pub then_old : (n r : Naming) (in_old in_new : Option Name) → n ≡ naming_of 1 in_new → n ≡ Unnamed → r ≡ naming_of 0 in_old → r ≡ naming_of_two in_old in_new
 unfolding naming_of naming_of_two
-then_old n r in-old (some m) e t q = cc
-then_old n r in-old none e t q = q
+then_old n r in_old (some m) e t q = cc
+then_old n r in_old none e t q = q
 
 -- ---- the companion's answer for one table
 

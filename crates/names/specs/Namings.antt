@@ -34,5 +34,5 @@ naming_of which none = Unnamed
 
 -- the answer for the name in the new table, or else the one in the old
 unfoldable pub naming_of_two : Option Name → Option Name → Naming
-naming_of_two in-old (some m) = naming_of 1 (some m)
-naming_of_two in-old none = naming_of 0 in-old
+naming_of_two in_old (some m) = naming_of 1 (some m)
+naming_of_two in_old none = naming_of 0 in_old

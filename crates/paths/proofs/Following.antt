@@ -14,8 +14,8 @@ use lib.ListN.{length, get_or, take, drop, set, replicate, length-append, length
 use lib.Seq.{get_or-drop, get_or-take, sets, sets-eq, take-append_seam}
 use Rattle.rules.specs.Words.{pick}
 use Rattle.rules.specs.NextHops.{has}
-use Rattle.rules.specs.Entries.{Entry, deliver, discard, no-route, forward, starts_here, entry_by}
-use Rattle.rules.specs.Paths.{Choice, Outcome, delivered, discarded, unrouted, lost, Path, Site, old_view, new-view, by, ended, crossed, follow, arrive, leave, entry_at, listed, path_in}
+use Rattle.rules.specs.Entries.{Entry, deliver, discard, no_route, forward, starts_here, entry_by}
+use Rattle.rules.specs.Paths.{Choice, Outcome, delivered, discarded, unrouted, lost, Path, Site, old_view, new_view, by, ended, crossed, follow, arrive, leave, entry_at, listed, path_in}
 use Rattle.rules.proofs.Basics.{same_everywhere}
 use Rattle.rules.proofs.Sets.{member_below}
 use Rattle.rules.proofs.Entries.{home_delivers}
@@ -36,7 +36,7 @@ in_part guides at i h = get_or-take 64 (drop at guides) i 0 h ∙ get_or-drop at
 -- ---- the entry that a router finds
 
 -- the sets of a view begin where its byte says, and 64 behind the first at most
-start_same : (new : Bool) → by (pick new new-view old_view) old_sets new_sets ≡ pick new new_sets old_sets
+start_same : (new : Bool) → by (pick new new_view old_view) old_sets new_sets ≡ pick new new_sets old_sets
 start_same true = refl
 start_same false = refl
 
@@ -194,7 +194,7 @@ module _ (site : Site) (choice : Choice) (joined : (i k : ℕ) → i < 64 → si
       go : (e : Entry) → Short 0 (arrive i (λ k. ended lost i) e)
       go deliver = ends_short 0 i b delivered
       go discard = ends_short 0 i b discarded
-      go no-route = ends_short 0 i b unrouted
+      go no_route = ends_short 0 i b unrouted
       go (forward k) = ends_short 0 i b lost
   short (suc left) n i j b = go (entry_at site choice n i j) (λ k. short left (suc n) k i)
     where
@@ -202,7 +202,7 @@ module _ (site : Site) (choice : Choice) (joined : (i k : ℕ) → i < 64 → si
           → Short (suc left) (arrive i (λ k. leave site i k (follow site choice left (suc n) k i)) e)
       go deliver ih = ends_short (suc left) i b delivered
       go discard ih = ends_short (suc left) i b discarded
-      go no-route ih = ends_short (suc left) i b unrouted
+      go no_route ih = ends_short (suc left) i b unrouted
       go (forward k) ih = over (site.carries i k) refl
         where
           over : (c : Bool) → site.carries i k ≡ c → Short (suc left) (pick c (crossed i (follow site choice left (suc n) k i)) (ended lost i))
@@ -242,7 +242,7 @@ module _ (guides : List ℕ) (routers s d : ℕ) (views blank : List ℕ) (lent 
 
     followed : arriving guides list d s starts_here 0 (routers - 1) ≡ path
     unfolding path_over path_in listed
-    followed = ap (λ choice. follow (site_over d guides) choice (routers - 1) 0 s starts_here) (λ z i m. pick (eqb (same_byte m z) 1) new-view old_view)
+    followed = ap (λ choice. follow (site_over d guides) choice (routers - 1) 0 s starts_here) (λ z i m. pick (eqb (same_byte m z) 1) new_view old_view)
 
     pub told_ending : (e : Ending) → e ≡ ending_in word → e ≡ ending_after 0 path
     unfolding ending_after

@@ -8,7 +8,7 @@ use native.Mathlib.Omega.{arith}
 use lib.ListN.{length, get_or, take, drop, set, replicate, length-append}
 use lib.Seq.{length-paste, paste, paste-suc, take_all, take_at, drop_at}
 use Rattle.rules.specs.Words.{All, below}
-use Rattle.rules.specs.Paths.{View, old_view, new-view, by}
+use Rattle.rules.specs.Paths.{View, old_view, new_view, by}
 use Rattle.rules.proofs.Basics.{All-append, All-at, All-values, length_values}
 use Rattle.rules.proofs.Sets.{set_below}
 use Rattle.tables.specs.declared.Outline.{Outline}
@@ -140,7 +140,7 @@ module _ (old : List ℕ) (o : Outline) (new : List ℕ) (n : Outline) (d : ℕ)
     pub view_part : (v : View) → numbers_from (by v old_sets new_sets) guides ≡ by v A B
     unfolding guides_to
     view_part old_view = ap (numbers_from old_sets) g ∙ first_part A B C (sets_long old o d) (sets_long new n d) (near_long new n d)
-    view_part new-view = ap (numbers_from new_sets) g ∙ second_part A B C (sets_long old o d) (sets_long new n d) (near_long new n d)
+    view_part new_view = ap (numbers_from new_sets) g ∙ second_part A B C (sets_long old o d) (sets_long new n d) (near_long new n d)
 
     pub links_part : numbers_from carriers guides ≡ C
     unfolding guides_to

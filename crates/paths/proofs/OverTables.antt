@@ -17,7 +17,7 @@ use Rattle.rules.specs.Links.{weight}
 use Rattle.rules.specs.Costs.{cost}
 use Rattle.rules.specs.NextHops.{has, next_hops}
 use Rattle.rules.specs.Entries.{entry_by, rules_of, entry}
-use Rattle.rules.specs.Paths.{View, old_view, new-view, by, Choice, listed, Path, Site, entry_at, site_of, path_in}
+use Rattle.rules.specs.Paths.{View, old_view, new_view, by, Choice, listed, Path, Site, entry_at, site_of, path_in}
 use Rattle.rules.specs.PathQuestion.{PathInputs, packet_of, path_of}
 use Rattle.rules.specs.Demand1.{IsAccepted}
 use Rattle.rules.specs.Demand3.{Follows, delivers, discards, has_none, loses, crosses, Loopless, Demand3}
@@ -121,7 +121,7 @@ module _ (q : PathInputs) (o n : Outline) (𝓕 : Followable q o n) (guides : Li
       go : (v : View) → entry_by (rules_over (by v (sets_of q.old o q.destination) (sets_of q.new n q.destination))) i j q.destination
           ≡ entry_by (rules_of (by v (says q.old) (says q.new)) q.destination) i j q.destination
       go old_view = own_entry q.old o q.destination 𝓕.together.old_accepted 𝓕.old_outline b i j
-      go new-view = own_entry q.new n q.destination 𝓕.together.new_accepted 𝓕.new_outline b i j
+      go new_view = own_entry q.new n q.destination 𝓕.together.new_accepted 𝓕.new_outline b i j
 
   carries : (i k : ℕ) → site.carries i k ≡ (site_of (packet_of q)).carries i k
   unfolding site_over site_of
@@ -135,7 +135,7 @@ module _ (q : PathInputs) (o n : Outline) (𝓕 : Followable q o n) (guides : Li
 
   same_view : (i m : ℕ) → m < (says q.new).routers - 1 → first_views i m ≡ listed q.views i m
   unfolding listed
-  same_view i m b = ap (λ v. pick (eqb v 1) new-view old_view) (get_or-take (n.routers - 1) q.views m 0 (omega (arith, same_n)))
+  same_view i m b = ap (λ v. pick (eqb v 1) new_view old_view) (get_or-take (n.routers - 1) q.views m 0 (omega (arith, same_n)))
 
   -- demand 3, whatever the choice
   demand3 : (choice : Choice) → Demand3 (says q.new) q.source q.destination (site_of (packet_of q)) choice

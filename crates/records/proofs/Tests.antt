@@ -181,9 +181,9 @@ module _ (contents : List ℕ) (tag : ℕ) where
   unfolding key
   key_else l n = rw (ne_eqb tag tag_name n, ne_eqb tag tag_link l)
 
-module _ (tag kept-tag order last : ℕ) where
-  pub same_tag : tag ≡ kept-tag → leb order last ≡ (eqb tag kept-tag && leb order last)
-  same_tag e = rw (eq-eqb tag kept-tag e)
+module _ (tag kept_tag order last : ℕ) where
+  pub same_tag : tag ≡ kept_tag → leb order last ≡ (eqb tag kept_tag && leb order last)
+  same_tag e = rw (eq-eqb tag kept_tag e)
 
-  pub other_tag : tag ≢ kept-tag → false ≡ (eqb tag kept-tag && leb order last)
-  other_tag e = rw (ne_eqb tag kept-tag e)
+  pub other_tag : tag ≢ kept_tag → false ≡ (eqb tag kept_tag && leb order last)
+  other_tag e = rw (ne_eqb tag kept_tag e)

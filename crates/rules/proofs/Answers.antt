@@ -127,20 +127,20 @@ in_run (suc m) k n more l u = go (ℕ_discrete n k) (in_run m (suc k) n more)
     go (no e) f = next (f (omega arith) (omega arith))
 
 -- a refusal that says neither table nor place
-plain_listed : {last-table : ℕ} {numbers : List ℕ} (number : ℕ) → Memᴰ number (0 ∷ table_numbers numbers) → Listed last-table numbers (refusal number)
+plain_listed : {last_table : ℕ} {numbers : List ℕ} (number : ℕ) → Memᴰ number (0 ∷ table_numbers numbers) → Listed last_table numbers (refusal number)
 plain_listed number m = record { by_number = m; of_a_table = omega arith; from_8 = omega arith; of_none = omega arith; near = omega arith }
 
-module _ (last-table : ℕ) (numbers : List ℕ) where
+module _ (last_table : ℕ) (numbers : List ℕ) where
   -- a line of a question's list gives what is asked
   abbrev Lists : Line Refusal → Type 0
-  Lists l = l.applies ≡ true → Listed last-table numbers l.gives
+  Lists l = l.applies ≡ true → Listed last_table numbers l.gives
 
-  table_lists : (which : ℕ) (bytes : List ℕ) → which ≤ last-table → Lists (table_refusal which bytes)
+  table_lists : (which : ℕ) (bytes : List ℕ) → which ≤ last_table → Lists (table_refusal which bytes)
   unfolding table_refusal
   table_lists which bytes w e = go (read bytes) (read_by bytes) (ltb-true 0 (number_of (read bytes)) e) (lengths_hold bytes).place_near
     where
       go : (j : Judged) → By-1-to-7 j → 0 < number_of j → place_of j ≤ longest_table
-          → Listed last-table numbers (record { number = number_of j; table = which; place = place_of j })
+          → Listed last_table numbers (record { number = number_of j; table = which; place = place_of j })
       go (accepted rs end) h l p = absurd (omega arith)
       go (refused number place) h l p = record {
         by_number = in_run 8 0 number numbers (omega arith) (omega arith);
@@ -154,7 +154,7 @@ module _ (last-table : ℕ) (numbers : List ℕ) where
   plain_list [] h = tt
   plain_list (l ∷ ls) h = (λ e. plain_listed l.gives (Memᴰ.append_right (0 ∷ table_numbers []) h.0), plain_list ls h.1)
 
-  tables_list : (ls : List (Line ℕ)) → All (λ l. Memᴰ l.gives numbers) ls → (which : ℕ) (tables : List (List ℕ)) → which + length tables ≤ suc last-table
+  tables_list : (ls : List (Line ℕ)) → All (λ l. Memᴰ l.gives numbers) ls → (which : ℕ) (tables : List (List ℕ)) → which + length tables ≤ suc last_table
       → All Lists (tables_from which tables ls)
   tables_list ls h which [] w = plain_list ls h
   tables_list ls h which (table ∷ tables) w = (table_lists which table (omega arith), tables_list ls h (suc which) tables (omega arith))

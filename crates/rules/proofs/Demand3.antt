@@ -13,7 +13,7 @@ use Rattle.rules.specs.Layout.{Table, Obeys}
 use Rattle.rules.specs.Links.{weight}
 use Rattle.rules.specs.NextHops.{has, next_hops}
 use Rattle.rules.specs.Entries.{entry_by, rules_of, starts_here, entry}
-use Rattle.rules.specs.Paths.{View, new-view, by, Choice, Packet, Path, Site, path_in, site_of, path}
+use Rattle.rules.specs.Paths.{View, new_view, by, Choice, Packet, Path, Site, path_in, site_of, path}
 use Rattle.rules.specs.Demand3.{Follows, Together, Permitted, Willing, EachHop, Loopless, Demand3ForAnyRules, Demand3OfPath}
 use Rattle.rules.proofs.Sets.{has_below, has_next, sets_fit}
 use Rattle.rules.proofs.Entries.{chosen_leads}
@@ -74,8 +74,8 @@ pub rules_willing : {old new : Table} → Together old new → (d : ℕ) (site :
     → ((i k : ℕ) → 0 < weight new i k → site.carries i k ≡ true) → Willing new d site
 unfolding rules_of
 rules_willing {old} {new} 𝓣 d site (to, own) carried = record {
-  starts_on = λ i a. ap (λ r. r.discards i starts_here) (own new-view) ∙ kept i;
-  goes_on = λ i j a e. ap (λ r. r.discards i j) (own new-view) ∙ not_back new 𝓣.new_obeys i j d e;
+  starts_on = λ i a. ap (λ r. r.discards i starts_here) (own new_view) ∙ kept i;
+  goes_on = λ i j a e. ap (λ r. r.discards i j) (own new_view) ∙ not_back new 𝓣.new_obeys i j d e;
   carried = carried;
 }
   where

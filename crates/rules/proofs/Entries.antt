@@ -11,7 +11,7 @@ use borrow.Author.Tests.{ltb-true, ltb-false, eq-eqb, ne_eqb}
 use Rattle.rules.specs.Layout.{Table, Obeys}
 use Rattle.rules.specs.Costs.{no_cost, cost}
 use Rattle.rules.specs.NextHops.{has, chosen, next_hops}
-use Rattle.rules.specs.Entries.{Entry, deliver, discard, no-route, forward, Rules, entry_by, rules_of, entry, code}
+use Rattle.rules.specs.Entries.{Entry, deliver, discard, no_route, forward, Rules, entry_by, rules_of, entry, code}
 use Rattle.rules.specs.Demand2.{LeadsOn, Lowest, FourLines, EntriesForward, EntriesByLines}
 use Rattle.rules.proofs.Weights.{net}
 use Rattle.rules.proofs.LeastCost.{cost_laws}
@@ -24,7 +24,7 @@ module _ (rules : Rules) (i j d : ℕ) where
   unfolding entry_by
   home_delivers e = rw (eq-eqb i d e)
 
-  no_route_tells : i ≢ d → rules.has_route i ≡ false → entry_by rules i j d ≡ no-route
+  no_route_tells : i ≢ d → rules.has_route i ≡ false → entry_by rules i j d ≡ no_route
   unfolding entry_by
   no_route_tells a r = rw (ne_eqb i d a, r)
 
@@ -38,7 +38,7 @@ module _ (rules : Rules) (i j d : ℕ) where
 
   pub data Enters : Entry → Type 0 where
     at_home : i ≡ d → Enters deliver
-    cut_off : i ≢ d → rules.has_route i ≡ false → Enters no-route
+    cut_off : i ≢ d → rules.has_route i ≡ false → Enters no_route
     drops : i ≢ d → rules.has_route i ≡ true → rules.discards i j ≡ true → Enters discard
     sends : i ≢ d → rules.has_route i ≡ true → rules.discards i j ≡ false → Enters (forward (rules.hop i j))
 
@@ -65,7 +65,7 @@ module _ (rules : Rules) (i j d : ℕ) where
 abbrev first_line : Entry → ℕ
 first_line deliver = 1
 first_line discard = 0
-first_line no-route = 0
+first_line no_route = 0
 first_line (forward k) = 0
 
 -- any other entry is given away from the destination

@@ -11,7 +11,7 @@ use native.Mathlib.Omega.{arith}
 use lib.ListN.{length}
 use Rattle.rules.specs.Words.{All, Distinct}
 use Rattle.rules.specs.Costs.{no_cost}
-use Rattle.rules.specs.Paths.{View, old_view, new-view}
+use Rattle.rules.specs.Paths.{View, old_view, new_view}
 use Rattle.rules.specs.Demand1.{SameEnds, OneChange}
 use Rattle.rules.proofs.Basics.{All-map, pigeonhole}
 use Rattle.rules.proofs.CostLaws.{Net, BothWays, Next, Costs, lower}
@@ -71,8 +71,8 @@ module _ {w w' : ℕ → ℕ → ℕ} {d : ℕ} {c c' : ℕ → ℕ} (both : Bot
 -- ---- a trail
 
 abbrev other : View → View
-other old_view = new-view
-other new-view = old_view
+other old_view = new_view
+other new_view = old_view
 
 -- router i, which uses view v and was reached from j, does not discard, and forwards to k
 pub record Sends (W : View → ℕ → ℕ → ℕ) (C : View → ℕ → ℕ) (v : View) (j i k : ℕ) : Type 0 where
@@ -85,9 +85,9 @@ pub data Trail (W : View → ℕ → ℕ → ℕ) (C : View → ℕ → ℕ) : �
   goes : {v : View} {j i k : ℕ} {ks : List ℕ} → Sends W C v j i k → Trail W C i k ks → Trail W C j i (i ∷ ks)
 
 module _ {n : ℕ} {W : View → ℕ → ℕ → ℕ} {d : ℕ} {C : View → ℕ → ℕ} (𝓝 : (v : View) → Net n (W v)) (both : (v : View) → BothWays (W v))
-    (𝓒 : (v : View) → Costs (W v) d (C v)) (once : OneChange (W old_view) (W new-view)) where
+    (𝓒 : (v : View) → Costs (W v) d (C v)) (once : OneChange (W old_view) (W new_view)) where
   abbrev Φ : ℕ → ℕ
-  Φ z = C old_view z + C new-view z
+  Φ z = C old_view z + C new_view z
 
   -- z comes after i, which used view v
   abbrev After : ℕ → View → ℕ → Type 0
@@ -95,10 +95,10 @@ module _ {n : ℕ} {W : View → ℕ → ℕ → ℕ} {d : ℕ} {C : View → �
 
   -- one hop, whichever view it is in
   crossed : (i : ℕ) (v : View) (k : ℕ) → Next (W v) (C v) i k → (Φ k ≤ Φ i) × (Φ k ≡ Φ i → Next (W (other v)) (C (other v)) k i)
-  crossed i old_view k s = hop (both old_view) (both new-view) (𝓒 old_view) (𝓒 new-view) once s
-  crossed i new-view k s =
-      let turned : OneChange (W new-view) (W old_view) = λ i k a b p q. once i k a b (λ e. p (sym e)) (λ e. q (sym e)) in
-      let h = hop (both new-view) (both old_view) (𝓒 new-view) (𝓒 old_view) turned s in
+  crossed i old_view k s = hop (both old_view) (both new_view) (𝓒 old_view) (𝓒 new_view) once s
+  crossed i new_view k s =
+      let turned : OneChange (W new_view) (W old_view) = λ i k a b p q. once i k a b (λ e. p (sym e)) (λ e. q (sym e)) in
+      let h = hop (both new_view) (both old_view) (𝓒 new_view) (𝓒 old_view) turned s in
       (omega arith, λ e. h.1 (omega arith))
 
   first : (i : ℕ) (v : View) (k : ℕ) → Next (W v) (C v) i k → After i v k
@@ -112,9 +112,9 @@ module _ {n : ℕ} {W : View → ℕ → ℕ → ℕ} {d : ℕ} {C : View → �
     where
       go : (v u : View) → ¬ Next (W u) (C u) k i → Next (W v) (C v) i k → Next (W (other v)) (C (other v)) k i → C u z < C u k → C v z < C v i
       go old_view old_view keep s m l = omega arith
-      go new-view new-view keep s m l = omega arith
-      go old_view new-view keep s m l = absurd (keep m)
-      go new-view old_view keep s m l = absurd (keep m)
+      go new_view new_view keep s m l = omega arith
+      go old_view new_view keep s m l = absurd (keep m)
+      go new_view old_view keep s m l = absurd (keep m)
 
   all_after : {v : View} {j i k : ℕ} {ks : List ℕ} → Sends W C v j i k → Trail W C i k ks → All (After i v) ks
   all_after {v} {j} {i} {k} s stays = (first i v k s.onward, tt)

@@ -12,8 +12,8 @@ use Rattle.rules.specs.Words.{pick, All, Distinct}
 use Rattle.rules.specs.Layout.{Table, Obeys}
 use Rattle.rules.specs.Links.{weight}
 use Rattle.rules.specs.Costs.{no_cost, cost}
-use Rattle.rules.specs.Entries.{Entry, deliver, discard, no-route, forward, entry_by, starts_here}
-use Rattle.rules.specs.Paths.{View, old_view, new-view, by, Choice, Outcome, outcome_code, delivered, discarded, unrouted, lost, Path, ended, crossed, Site, leave, arrive, entry_at, follow}
+use Rattle.rules.specs.Entries.{Entry, deliver, discard, no_route, forward, entry_by, starts_here}
+use Rattle.rules.specs.Paths.{View, old_view, new_view, by, Choice, Outcome, outcome_code, delivered, discarded, unrouted, lost, Path, ended, crossed, Site, leave, arrive, entry_at, follow}
 use Rattle.rules.specs.Demand3.{Follows, delivers, discards, has_none, loses, crosses, Together, Permitted, EachHop, deciders, Loopless}
 use Rattle.rules.proofs.Basics.{All-there, pigeonhole}
 use Rattle.rules.proofs.CostLaws.{Net, BothWays, Costs}
@@ -111,11 +111,11 @@ C old new d v i = cost (by v old new) i d
 module _ {old new : Table} (𝓣 : Together old new) where
   pub obeys : (v : View) → Obeys (by v old new)
   obeys old_view = 𝓣.old_obeys
-  obeys new-view = 𝓣.new_obeys
+  obeys new_view = 𝓣.new_obeys
 
   nets : (v : View) → Net new.routers (W old new v)
   nets old_view = rw 𝓣.same_routers at (net old 𝓣.old_obeys)
-  nets new-view = net new 𝓣.new_obeys
+  nets new_view = net new 𝓣.new_obeys
 
   both : (v : View) → BothWays (W old new v)
   both v = both_ways (by v old new)
@@ -160,7 +160,7 @@ module _ {old new : Table} {d : ℕ} {site : Site} (𝓣 : Together old new) (�
             → Follows site choice n i j (arrive i (λ k. ended lost i) e) ⊎ TooLong 0 i j
         go deliver q = inl (delivers q)
         go discard q = inl (discards q)
-        go no-route q = inl (has_none q)
+        go no_route q = inl (has_none q)
         go (forward k) q = inr (i ∷ k ∷ [], goes (sent (choice i n) j i k q) stays, refl)
     runs (suc left) n i j = go (entry_at site choice n i j) refl (λ k. runs left (suc n) k i)
       where
@@ -170,7 +170,7 @@ module _ {old new : Table} {d : ℕ} {site : Site} (𝓣 : Together old new) (�
             ⊎ TooLong (suc left) i j
         go deliver q ih = inl (delivers q)
         go discard q ih = inl (discards q)
-        go no-route q ih = inl (has_none q)
+        go no_route q ih = inl (has_none q)
         go (forward k) q ih = carry (site.carries i k) refl (ih k)
           where
             carry : (c : Bool) → site.carries i k ≡ c

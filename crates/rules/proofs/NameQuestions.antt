@@ -102,7 +102,7 @@ module _ (bytes : List ℕ) (a : IsAccepted bytes) (i : ℕ) (m : Name) (e : nam
       stands = ap (λ (l : List ℕ). length l) (part_stands bytes i m e)
 
 -- a refusal names nothing
-pub named_answered : {last-table : ℕ} {numbers : List ℕ} (a : Answer ℕ) → RefusedBy last-table numbers 0 a → a.values ≡ 1 → Answered a
+pub named_answered : {last_table : ℕ} {numbers : List ℕ} (a : Answer ℕ) → RefusedBy last_table numbers 0 a → a.values ≡ 1 → Answered a
 named_answered a r v = go (ℕ_discrete a.refusal.number 0)
   where
     go : Dec (a.refusal.number ≡ 0) → a.refusal.number ≡ 0

@@ -9,7 +9,7 @@ use lib.Dec.{eqb}
 use lib.ListN.{length, get_or}
 use Rattle.rules.specs.Words.{pick, All, below}
 use Rattle.rules.specs.Entries.{Entry, entry_by}
-use Rattle.rules.specs.Paths.{View, old_view, new-view, Choice, listed, Path, Site, entry_at}
+use Rattle.rules.specs.Paths.{View, old_view, new_view, Choice, listed, Path, Site, entry_at}
 use Rattle.rules.specs.Demand3.{Follows, delivers, discards, has_none, loses, crosses, decisions}
 use Rattle.rules.proofs.Basics.{length_values, value_at, All-values}
 use Rattle.rules.proofs.Entries.{home_delivers, delivers_home}
@@ -44,11 +44,11 @@ module _ (site : Site) (choice choice' : Choice) where
 
 abbrev view_byte : View → ℕ
 view_byte old_view = 0
-view_byte new-view = 1
+view_byte new_view = 1
 
 view_byte_small : (v : View) → view_byte v ≤ 1
 view_byte_small old_view = omega arith
-view_byte_small new-view = omega arith
+view_byte_small new_view = omega arith
 
 -- byte n is the view that the n-th router of the trace used
 pub views_of : Choice → ℕ → List ℕ → List ℕ
@@ -68,9 +68,9 @@ unfolding listed views_of
 views_say choice m trace i n h =
     rw (value_at (λ n. view_byte (choice (get_or trace n 255) n)) m n 0 h) (go (choice (get_or trace n 255) n))
   where
-    go : (v : View) → pick (eqb (view_byte v) 1) new-view old_view ≡ v
+    go : (v : View) → pick (eqb (view_byte v) 1) new_view old_view ≡ v
     go old_view = refl
-    go new-view = refl
+    go new_view = refl
 
 -- a list of m bytes gives the path of a choice whose decisions are m at most
 pub listed_follows : (site : Site) (choice : Choice) (j i m : ℕ) {path : Path} → Follows site choice 0 i j path → decisions path ≤ m

@@ -154,16 +154,16 @@ table_numbers more = 1 ∷ 2 ∷ 3 ∷ 4 ∷ 5 ∷ 6 ∷ 7 ∷ more
 
 -- The number is 0 or one of these, and the table one of those lent; from 8 upwards, and where nothing is refused, table and place are 0; a table's
 -- place is at most the longest table.
-pub record Listed (last-table : ℕ) (numbers : List ℕ) (r : Refusal) : Type 0 where
+pub record Listed (last_table : ℕ) (numbers : List ℕ) (r : Refusal) : Type 0 where
   pub by_number : Memᴰ r.number (0 ∷ table_numbers numbers)
-  pub of_a_table : r.table ≤ last-table
+  pub of_a_table : r.table ≤ last_table
   pub from_8 : 8 ≤ r.number → (r.table ≡ 0) × (r.place ≡ 0)
   pub of_none : r.number ≡ 0 → (r.table ≡ 0) × (r.place ≡ 0)
   pub near : r.place ≤ longest_table
 
 -- an answer's refusal is listed, and all other numbers of a refusal are 0
-pub record RefusedBy {A : Type 0} (last-table : ℕ) (numbers : List ℕ) (zeros : A) (a : Answer A) : Type 0 where
-  pub listed : Listed last-table numbers a.refusal
+pub record RefusedBy {A : Type 0} (last_table : ℕ) (numbers : List ℕ) (zeros : A) (a : Answer A) : Type 0 where
+  pub listed : Listed last_table numbers a.refusal
   pub else_zero : Refused a → a.values ≡ zeros
 
 -- of lists that begin with tables (proofs/Answers)

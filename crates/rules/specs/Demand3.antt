@@ -6,8 +6,8 @@ use Rattle.rules.specs.Links.{weight}
 use Rattle.rules.specs.Pairs.{differing}
 use Rattle.rules.specs.Costs.{cost, no_cost}
 use Rattle.rules.specs.NextHops.{has, next_hops}
-use Rattle.rules.specs.Entries.{deliver, discard, entry, entry_by, forward, no-route, starts_here}
-use Rattle.rules.specs.Paths.{Choice, Outcome, Packet, Path, Site, View, by, delivered, discarded, ended, entry_at, path_in, listed, lost, new-view, path, site_of, unrouted}
+use Rattle.rules.specs.Entries.{deliver, discard, entry, entry_by, forward, no_route, starts_here}
+use Rattle.rules.specs.Paths.{Choice, Outcome, Packet, Path, Site, View, by, delivered, discarded, ended, entry_at, path_in, listed, lost, new_view, path, site_of, unrouted}
 
 -- ---- following as a relation: what arriving and leaving give, however many hops it takes
 
@@ -17,7 +17,7 @@ pub data Follows (site : Site) (choice : Choice) : ℕ → ℕ → ℕ → Path 
       → Follows site choice n i j (record { outcome = delivered; router = i; hops = 0; trace = i ∷ [] })
   discards : {n i j : ℕ} → entry_at site choice n i j ≡ discard
       → Follows site choice n i j (record { outcome = discarded; router = i; hops = 0; trace = i ∷ [] })
-  has_none : {n i j : ℕ} → entry_at site choice n i j ≡ no-route
+  has_none : {n i j : ℕ} → entry_at site choice n i j ≡ no_route
       → Follows site choice n i j (record { outcome = unrouted; router = i; hops = 0; trace = i ∷ [] })
   loses : {n i j k : ℕ} → entry_at site choice n i j ≡ forward k → site.carries i k ≡ false
       → Follows site choice n i j (record { outcome = lost; router = i; hops = 0; trace = i ∷ [] })
@@ -46,8 +46,8 @@ pub record Permitted (old new : Table) (d : ℕ) (site : Site) : Type 0 where
 -- With all views new: rules that discard neither what starts here nor what comes from a router whose set has this one, and links that carry
 -- where the new table has one.
 pub record Willing (new : Table) (d : ℕ) (site : Site) : Type 0 where
-  pub starts_on : (i : ℕ) → i ≢ d → (site.rules new-view).discards i starts_here ≡ false
-  pub goes_on : (i j : ℕ) → i ≢ d → has (next_hops new j d) i ≡ true → (site.rules new-view).discards i j ≡ false
+  pub starts_on : (i : ℕ) → i ≢ d → (site.rules new_view).discards i starts_here ≡ false
+  pub goes_on : (i j : ℕ) → i ≢ d → has (next_hops new j d) i ≡ true → (site.rules new_view).discards i j ≡ false
   pub carried : (i k : ℕ) → 0 < weight new i k → site.carries i k ≡ true
 
 -- ---- what is promised
@@ -92,7 +92,7 @@ pub record Loopless (routers s : ℕ) (site : Site) (choice : Choice) (p : Path)
 
 -- every router that decided used the new view
 abbrev pub AllNew : Choice → Path → Type 0
-AllNew choice p = (n : ℕ) → n < decisions p → choice (get_or p.trace n 255) n ≡ new-view
+AllNew choice p = (n : ℕ) → n < decisions p → choice (get_or p.trace n 255) n ≡ new_view
 
 -- then nothing is discarded or lost; where a route exists the packet arrives at least cost; where none does the answer is no route, at the source
 pub record AtLeastCost (new : Table) (s d : ℕ) (p : Path) : Type 0 where

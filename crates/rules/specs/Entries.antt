@@ -7,7 +7,7 @@ use Rattle.rules.specs.Costs.{cost, no_cost}
 use Rattle.rules.specs.NextHops.{has, chosen, next_hops}
 
 pub data Entry : Type 0 where
-  deliver discard no-route : Entry
+  deliver discard no_route : Entry
   forward : ℕ → Entry
 
 -- the previous hop of a packet that starts here: no router has this number, so it is in no next-hop set
@@ -26,7 +26,7 @@ pub record Rules : Type 0 where
 unfoldable pub entry_by : Rules → ℕ → ℕ → ℕ → Entry
 entry_by rules i j d =
     first deliver when (i =? d)
-    ∷ no-route when not (rules.has_route i)
+    ∷ no_route when not (rules.has_route i)
     ∷ discard when rules.discards i j
     ∷ []
     otherwise forward (rules.hop i j)
@@ -49,7 +49,7 @@ abbrev pub code : Entry → ℕ
 code (forward k) = k
 code deliver = 128
 code discard = 129
-code no-route = 130
+code no_route = 130
 
 -- the whole row of the router itself is 131
 unfoldable pub cell : Table → ℕ → ℕ → ℕ → ℕ

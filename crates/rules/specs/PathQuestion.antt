@@ -2,7 +2,7 @@
 use Rattle.std.specs.Prelude.{◌≡◌, ◌↔◌, Bool, ◌||◌, not, List, [], ◌∷◌, ◌++◌, ℕ, suc, ◌-◌, ◌≤◌, ◌<◌, length, take}
 use Rattle.rules.specs.Words.{◌<?◌, ◌≤?◌, Line, ◌when◌, every, All}
 use Rattle.rules.specs.Table.{byte, says}
-use Rattle.rules.specs.Paths.{Choice, Packet, Path, listed, new-view, old_view, outcome_code, path}
+use Rattle.rules.specs.Paths.{Choice, Packet, Path, listed, new_view, old_view, outcome_code, path}
 use Rattle.rules.specs.Demand3.{Demand3OfPath, decisions}
 use Rattle.rules.specs.Answers.{Answer, Answered, answer, afterwards, on_tables, bad_router, Case, ◌unless◌, Exactly, RefusedBy, Output}
 use Rattle.rules.specs.PairQuestion.{pair_refusals, pair_cases, AcceptedTogether}
@@ -105,7 +105,7 @@ pub record PathProved (q : PathInputs) : Type 0 where
   pub followed : path_of q
       ≡ path (record { old = says q.old; new = says q.new; source = q.source; destination = q.destination }) (listed q.views)
   pub views_say : (i n : ℕ)
-      → (byte q.views n ≡ 0 → listed q.views i n ≡ old_view) × (byte q.views n ≡ 1 → listed q.views i n ≡ new-view)
+      → (byte q.views n ≡ 0 → listed q.views i n ≡ old_view) × (byte q.views n ≡ 1 → listed q.views i n ≡ new_view)
   -- one router for each one visited, and nothing after the last
   pub trace_held : Output (path_answer q) (suc (path_of q).hops) (path_of q).trace q.trace (trace_after q)
   -- every router that decides finds its byte in the list

@@ -4,17 +4,17 @@ use Rattle.rules.specs.Words.{◌=?◌, ◌<?◌, pick}
 use Rattle.rules.specs.Layout.{Table}
 use Rattle.rules.specs.Table.{byte}
 use Rattle.rules.specs.Links.{weight}
-use Rattle.rules.specs.Entries.{Entry, deliver, discard, no-route, forward, Rules, entry_by, rules_of, starts_here}
+use Rattle.rules.specs.Entries.{Entry, deliver, discard, no_route, forward, Rules, entry_by, rules_of, starts_here}
 
 -- ---- views
 
 pub data View : Type 0 where
-  old_view new-view : View
+  old_view new_view : View
 
 -- the one of two that a view means
 abbrev pub by : {A : Type 0} → View → A → A → A
 by old_view a b = a
-by new-view a b = b
+by new_view a b = b
 
 -- which view router i uses if it is the n-th that decides, counted from 0: chosen by anyone
 abbrev pub Choice : Type 0
@@ -22,7 +22,7 @@ Choice = ℕ → ℕ → View
 
 -- byte n of a view list: 0 old, 1 new
 unfoldable pub listed : List ℕ → Choice
-listed views i n = pick (byte views n =? 1) new-view old_view
+listed views i n = pick (byte views n =? 1) new_view old_view
 
 -- ---- the answer
 
@@ -69,7 +69,7 @@ leave site i k onward = pick (site.carries i k) (crossed i onward) (ended lost i
 abbrev pub arrive : ℕ → (ℕ → Path) → Entry → Path
 arrive i out deliver = ended delivered i
 arrive i out discard = ended discarded i
-arrive i out no-route = ended unrouted i
+arrive i out no_route = ended unrouted i
 arrive i out (forward k) = out k
 
 -- The packet stands at router i, came from j, and n routers have decided: the one view that is chosen here serves for the whole entry.

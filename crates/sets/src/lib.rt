@@ -1,5 +1,6 @@
 // Sets of routers as 64-bit numbers, bit k for router k.
 #![tactic(auto)]
+
 ghost use Rattle.sets.specs.Sets.{NoSets, HasMember, Chooses, Counts};
 
 // The chosen hop of the empty set: no router.

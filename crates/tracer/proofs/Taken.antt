@@ -14,7 +14,7 @@ use Rattle.rules.specs.Words.{◌<?◌, every, below}
 use Rattle.rules.specs.Layout.{Table, Name, Obeys}
 use Rattle.rules.specs.Table.{says}
 use Rattle.rules.specs.NextHops.{has, members, chosen, size}
-use Rattle.rules.specs.Entries.{Entry, deliver, discard, no-route, forward, entry, code}
+use Rattle.rules.specs.Entries.{Entry, deliver, discard, no_route, forward, entry, code}
 use Rattle.rules.specs.Paths.{Path, Outcome, listed, delivered, discarded, unrouted, lost, outcome_code}
 use Rattle.rules.specs.Names.{Part, named, or_else}
 use Rattle.rules.specs.Answers.{Answer, answered, refused_with, Answered, RefusedBy, table_numbers}
@@ -57,29 +57,29 @@ module _ (number table place : ℕ) (n : number < 256) (t : table < 256) (p : pl
 
 -- values whose number is below byte 7, and is read as these values
 abbrev Again : {A : Type 0} → (A → ℕ) → (ℕ → A) → A → Type 0
-Again bytes values-in v = (bytes v < 256 ^ 7) × (values-in (bytes v) ≡ v)
+Again bytes values_in v = (bytes v < 256 ^ 7) × (values_in (bytes v) ≡ v)
 
 no_number : (word : ℕ) → word < 256 ^ 7 → byte_in word 7 ≡ 0
 unfolding byte_in
 no_number word h = omega arith
 
 -- an answer by its question's refusals
-module _ {A : Type 0} {zeros : A} {last-table : ℕ} {numbers : List ℕ} {a : Answer A} (r : RefusedBy last-table numbers zeros a) where
+module _ {A : Type 0} {zeros : A} {last_table : ℕ} {numbers : List ℕ} {a : Answer A} (r : RefusedBy last_table numbers zeros a) where
   answered_so : Answered a → a ≡ answered a.values
   answered_so e = λ i. record { refusal = record { number = e i; table = (r.listed.of_none e).0 i; place = (r.listed.of_none e).1 i }; values = a.values }
 
   refused_so : a.refusal.number ≢ 0 → a ≡ refused_with zeros a.refusal.number a.refusal.table a.refusal.place
   refused_so n = λ i. record { refusal = a.refusal; values = r.else_zero n i }
 
-  again : (bytes : A → ℕ) (values-in : ℕ → A) → last-table < 256 → every (λ n. n <? 256) (0 ∷ table_numbers numbers) ≡ true → bytes zeros ≡ 0
-      → (Answered a → Again bytes values-in a.values) → TakenAgain zeros bytes values-in a
+  again : (bytes : A → ℕ) (values_in : ℕ → A) → last_table < 256 → every (λ n. n <? 256) (0 ∷ table_numbers numbers) ≡ true → bytes zeros ≡ 0
+      → (Answered a → Again bytes values_in a.values) → TakenAgain zeros bytes values_in a
   unfolding taken
-  again bytes values-in l few z f = go (ℕ_discrete a.refusal.number 0)
+  again bytes values_in l few z f = go (ℕ_discrete a.refusal.number 0)
     where
-      go : Dec (a.refusal.number ≡ 0) → taken zeros values-in (packed bytes a) ≡ a
+      go : Dec (a.refusal.number ≡ 0) → taken zeros values_in (packed bytes a) ≡ a
       go (yes e) =
           let w : packed bytes a ≡ bytes a.values = ap (packed bytes) (answered_so e) ∙ packed_answered bytes a.values in
-          ap (taken zeros values-in) w
+          ap (taken zeros values_in) w
           ∙ pick_t _ _ _ (eq-eqb _ 0 (no_number (bytes a.values) (f e).0))
           ∙ ap answered (f e).1
           ∙ sym (answered_so e)
@@ -92,7 +92,7 @@ module _ {A : Type 0} {zeros : A} {last-table : ℕ} {numbers : List ℕ} {a : A
           let at : place < 256 ^ 6 = omega (arith, r.listed.near) in
           let w : packed bytes a ≡ refusal_bytes number table place = ap (packed bytes) (refused_so n) ∙ packed_refused bytes zeros number table place z in
           let q = number_again number table place small old at in
-          ap (taken zeros values-in) w
+          ap (taken zeros values_in) w
           ∙ pick_f _ _ _ (ne_eqb _ 0 (λ e. n (sym q ∙ e)))
           ∙ (λ i. refused_with zeros (q i) (table_again number table place small old at i) (place_again number table place small old at i))
           ∙ sym (refused_so n)
@@ -161,7 +161,7 @@ code_fits t o i j d = go (entry t i j d) refl
     go : (e : Entry) → entry t i j d ≡ e → code e < 256
     go deliver q = omega arith
     go discard q = omega arith
-    go no-route q = omega arith
+    go no_route q = omega arith
     go (forward k) q = omega (arith, (entries_forward t o i j d k q).1, o.few_routers)
 
 -- where a packet of n routers' tables ended
@@ -217,7 +217,7 @@ zero_or_one none v e = inl e
 zero_or_one (some m) v e = inr e
 
 -- the number of an answer that names a part
-named_word : {last-table : ℕ} {numbers : List ℕ} (part : Part) (a : Answer ℕ) → RefusedBy last-table numbers 0 a → a.values ≡ 1
+named_word : {last_table : ℕ} {numbers : List ℕ} (part : Part) (a : Answer ℕ) → RefusedBy last_table numbers 0 a → a.values ≡ 1
     → packed (name_bytes part) a ≡ name_bytes part 1
 named_word part a r v =
     ap (packed (name_bytes part)) (answered_so r (named_answered a r v)) ∙ packed_answered (name_bytes part) a.values ∙ ap (name_bytes part) v

@@ -59,7 +59,7 @@ part_in word = record { table = byte_in word 2; place = two_bytes_in word 4; siz
 
 -- an answer is read from its number: byte 7 is 0 exactly where the question is answered, and nothing of the answer is lost
 abbrev pub TakenAgain : {A : Type 0} → A → (A → ℕ) → (ℕ → A) → Answer A → Type 0
-TakenAgain zeros bytes values-in a = taken zeros values-in (packed bytes a) ≡ a
+TakenAgain zeros bytes values_in a = taken zeros values_in (packed bytes a) ≡ a
 
 -- and so is the part that a name is
 abbrev pub PartTakenAgain : Part → Answer ℕ → Type 0
