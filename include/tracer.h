@@ -6,7 +6,7 @@
  *
  * Every function answers one question by one 64-bit number, and every input is answered or refused. The helpers below
  * take the number apart; docs/C-SIDE.md has it byte by byte, and a table's bytes. Link with libtracer.a, which
- * `rt staticlib tracer` makes.
+ * `rt lib` in crates/tracer makes.
  *
  * A table, a view list and an output are each a pointer and the number of elements. The caller keeps:
  *   - a pointer is not null, also where there are no elements, and aligned as C aligns its type;

@@ -3,10 +3,8 @@
 // Bytes before a question.
 pub fn bytes() -> [u8; 4216] {
     let mut array = [0u8; 4216];
-    let mut i = 0;
-    while i < 4216 {
+    for i in 0..4216 {
         array[i] = ((37 * i + 11) % 256) as u8;
-        i += 1;
     }
     array
 }
@@ -14,10 +12,8 @@ pub fn bytes() -> [u8; 4216] {
 // Costs before a question.
 pub fn costs() -> [u32; 96] {
     let mut array = [0u32; 96];
-    let mut i = 0;
-    while i < 96 {
+    for i in 0..96 {
         array[i] = 0xC0000000 + (i as u32);
-        i += 1;
     }
     array
 }
@@ -25,10 +21,8 @@ pub fn costs() -> [u32; 96] {
 // Sets before a question.
 pub fn sets() -> [u64; 96] {
     let mut array = [0u64; 96];
-    let mut i = 0;
-    while i < 96 {
+    for i in 0..96 {
         array[i] = 0x5E70000000000000 + (i as u64);
-        i += 1;
     }
     array
 }

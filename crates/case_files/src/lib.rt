@@ -1,3 +1,4 @@
+#![tactic(auto)]
 // Question files and answer files, as tests/README.md lays them out.
 pub mod arrays;
 pub mod records;

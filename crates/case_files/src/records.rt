@@ -1,8 +1,10 @@
-// The records of a question file on standard input, and the loads that are held.
-ghost use Rattle.std.specs.Prelude.{◌≤◌, length};
-ghost use Rattle.io.specs.Counts.{IsPrefixLen};
+// The records of a question file, and the loads that are held.
+ghost use Rattle.std.specs.Counts.{IsPrefixLen};
+ghost use Rattle.std.specs.Io.{ReadsAtMost};
+ghost use Rattle.std.specs.Prelude.{◌≤◌, length, IsTrue, OnErr};
 
-use libc::STDIN_FILENO;
+use std::io;
+use std::io::Read;
 
 // More records than any file has.
 pub const MOST_RECORDS: u32 = 1000000;
@@ -29,20 +31,33 @@ fn number(head: &[u8; 32], from: usize, to: usize) -> u64
     requires { to ≤ 32 }
 {
     let mut x = 0;
-    let mut i = from;
-    while i < to {
+    for i in from..to {
         x = (x << 8) | wide(head[i]);
-        i += 1;
     }
     x
 }
 
+// Reads until the array is full or the input ends, and answers how many bytes there were.
+fn read_full<R: Read>(input: &mut R, array: &mut [u8]) -> io::Result<usize>
+    ensures { ReadsAtMost result array.new }
+{
+    let mut done = 0;
+    while done < array.len() {
+        let got = input.read(&mut array[done..])?;
+        if got == 0 {
+            break;
+        }
+        done += got;
+    }
+    Ok(done)
+}
+
 // The next record's header.
-pub fn next_question() -> Question {
+pub fn next_question<R: Read>(input: &mut R) -> io::Result<Question> {
     let mut head = [0u8; 32];
-    let got = io::read_full(STDIN_FILENO, &mut head);
+    let got = read_full(input, &mut head)?;
     if got < 32 {
-        return Question {
+        return Ok(Question {
             letter: 0,
             load: 0,
             room: 0,
@@ -50,9 +65,9 @@ pub fn next_question() -> Question {
             x: 0,
             y: 0,
             z: 0,
-        };
+        });
     }
-    Question {
+    Ok(Question {
         letter: head[0],
         load: number(&head, 2, 4) as usize,
         room: number(&head, 4, 6) as usize,
@@ -60,7 +75,7 @@ pub fn next_question() -> Question {
         x: number(&head, 8, 16),
         y: number(&head, 16, 24),
         z: number(&head, 24, 32),
-    }
+    })
 }
 
 // The smaller of two numbers.
@@ -79,11 +94,11 @@ pub fn load() -> [u8; 8192] {
 }
 
 // Reads so many bytes, or those that are left, and answers how many.
-fn read_first(array: &mut [u8], most: usize) -> usize
+fn read_first<R: Read>(input: &mut R, array: &mut [u8], most: usize) -> io::Result<usize>
     requires { most ≤ length array.old }
-    ensures { IsPrefixLen result array.new }
+    ensures { ReadsAtMost result array.new }
 {
-    io::read_full(STDIN_FILENO, &mut array[..most])
+    read_full(input, &mut array[..most])
 }
 
 // So many bytes of an array, or all that it has.
@@ -94,11 +109,18 @@ fn within(array: &[u8], size: usize) -> usize
 }
 
 // A load's length: where it comes now it is read, else it stays.
-pub fn held(comes: bool, array: &mut [u8; 8192], held: usize, size: usize) -> usize
-    ensures { IsPrefixLen result array.new }
+pub fn held<R: Read>(
+    input: &mut R,
+    comes: bool,
+    array: &mut [u8; 8192],
+    held: usize,
+    size: usize,
+) -> io::Result<usize>
+    ensures in_bounds { ReadsAtMost result array.new }
+    ensures err_only_reading { OnErr result (IsTrue comes) }
 {
     if !comes {
-        return within(array, held);
+        return Ok(within(array, held));
     }
-    read_first(array, at_most(size, 8192))
+    read_first(input, array, at_most(size, 8192))
 }

@@ -2,52 +2,59 @@
 ghost use Rattle.std.specs.Prelude.{◌<◌};
 
 use crate::records::at_most;
-use libc::STDOUT_FILENO;
+use std::io;
+use std::io::Write;
 
 // A text as it stands.
-pub fn text(bytes: &[u8]) {
-    io::write_all(STDOUT_FILENO, bytes);
+pub fn text<W: Write>(out: &mut W, bytes: &[u8]) -> io::Result<()> {
+    out.write_all(bytes)
 }
 
 // The end of a line.
-pub fn end() {
-    text(b"\n");
+pub fn end<W: Write>(out: &mut W) -> io::Result<()> {
+    text(out, b"\n")
 }
 
 // A number in decimal digits.
-pub fn digits(x: u64) {
-    io::print_decimal(STDOUT_FILENO, x);
+pub fn digits<W: Write>(out: &mut W, x: u64) -> io::Result<()> {
+    write!(out, "{x}")
 }
 
 // A field that is a number.
-pub fn number(x: u64) {
-    text(b" ");
-    digits(x);
+pub fn number<W: Write>(out: &mut W, x: u64) -> io::Result<()> {
+    text(out, b" ")?;
+    digits(out, x)
 }
 
 // A line's letter.
-pub fn letter(byte: u8) {
-    text(&[byte]);
+pub fn letter<W: Write>(out: &mut W, byte: u8) -> io::Result<()> {
+    text(out, &[byte])
 }
 
 // The letter of a question that is answered, no refusal, and a number.
-pub fn answered(question: u8, x: u64) {
-    letter(question);
-    text(b" 0 0 0");
-    number(x);
+pub fn answered<W: Write>(out: &mut W, question: u8, x: u64) -> io::Result<()> {
+    letter(out, question)?;
+    text(out, b" 0 0 0")?;
+    number(out, x)
 }
 
 // The letter of a question that is refused, the refusal, and as many zeros as an answer has numbers.
-pub fn refused(question: u8, refusal: u8, table: u8, place: usize, zeros: u8) {
-    letter(question);
-    number(refusal as u64);
-    number(table as u64);
-    number(place as u64);
-    let mut i = 0;
-    while i < zeros {
-        text(b" 0");
-        i += 1;
+pub fn refused<W: Write>(
+    out: &mut W,
+    question: u8,
+    refusal: u8,
+    table: u8,
+    place: usize,
+    zeros: u8,
+) -> io::Result<()> {
+    letter(out, question)?;
+    number(out, refusal as u64)?;
+    number(out, table as u64)?;
+    number(out, place as u64)?;
+    for _ in 0..zeros {
+        text(out, b" 0")?;
     }
+    Ok(())
 }
 
 // A hexadecimal digit.
@@ -71,17 +78,15 @@ fn low_digit(byte: u8) -> u8 {
 }
 
 // A field that is an array of so many bytes.
-pub fn bytes(array: &[u8; 4216], size: usize) {
+pub fn bytes<W: Write>(out: &mut W, array: &[u8; 4216], size: usize) -> io::Result<()> {
     let all = at_most(size, 4216);
     let mut page = [0u8; 8432];
-    let mut i = 0;
-    while i < all {
+    for i in 0..all {
         page[2 * i] = high_digit(array[i]);
         page[2 * i + 1] = low_digit(array[i]);
-        i += 1;
     }
-    text(b" ");
-    text(&page[..2 * all]);
+    text(out, b" ")?;
+    text(out, &page[..2 * all])
 }
 
 // A cost as a number of 64 bits.
@@ -90,23 +95,23 @@ fn wide(cost: u32) -> u64 {
 }
 
 // A field that is an array of so many costs.
-pub fn costs(array: &[u32; 96], size: usize) {
+pub fn costs<W: Write>(out: &mut W, array: &[u32; 96], size: usize) -> io::Result<()> {
     let all = at_most(size, 96);
-    text(b" ");
-    let mut i = 0;
-    while i < all {
-        io::print_hex(STDOUT_FILENO, wide(array[i]), 8);
-        i += 1;
+    text(out, b" ")?;
+    for i in 0..all {
+        let cost = wide(array[i]);
+        write!(out, "{cost:08x}")?;
     }
+    Ok(())
 }
 
 // A field that is an array of so many sets.
-pub fn sets(array: &[u64; 96], size: usize) {
+pub fn sets<W: Write>(out: &mut W, array: &[u64; 96], size: usize) -> io::Result<()> {
     let all = at_most(size, 96);
-    text(b" ");
-    let mut i = 0;
-    while i < all {
-        io::print_hex(STDOUT_FILENO, array[i], 16);
-        i += 1;
+    text(out, b" ")?;
+    for i in 0..all {
+        let set = array[i];
+        write!(out, "{set:016x}")?;
     }
+    Ok(())
 }

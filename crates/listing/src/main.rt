@@ -1,11 +1,33 @@
+#![tactic(auto)]
 // Prints the listing of the table on standard input.
-use libc::{STDERR_FILENO, STDIN_FILENO};
+ghost use Rattle.std.specs.Io.{ReadsAtMost};
 
-fn main() {
-    let mut table = io::buffer();
-    // at most 4,096 bytes: a longer table is refused by then with the same number and place
-    let length = io::read_full(STDIN_FILENO, &mut table);
-    if !printing::print_listing(&table[..length]) {
-        io::write_all(STDERR_FILENO, b"listing: not all could be written\n");
+use std::io;
+use std::io::{Read, Write};
+
+// Reads until the array is full or the input ends, and answers how many bytes there were.
+fn read_full<R: Read>(input: &mut R, array: &mut [u8]) -> io::Result<usize>
+    ensures { ReadsAtMost result array.new }
+{
+    let mut done = 0;
+    while done < array.len() {
+        let got = input.read(&mut array[done..])?;
+        if got == 0 {
+            break;
+        }
+        done += got;
     }
+    Ok(done)
+}
+
+fn main(rt: HostRuntime) -> io::Result<()> {
+    let mut table = [0u8; 4096];
+    // at most 4,096 bytes: a longer table is refused by then with the same number and place
+    let length = read_full(&mut rt.stdin(), &mut table)?;
+    let printed = printing::print_listing(&mut rt.stdout(), &table[..length]);
+    if printed.is_err() {
+        rt.stderr()
+            .write_all(b"listing: not all could be written\n")?;
+    }
+    printed
 }

@@ -1,6 +1,14 @@
-// A table's listing printed on standard output, page by page.
-use libc::STDOUT_FILENO;
+#![tactic(auto)]
+// A table's listing printed page by page.
+ghost use mathlib.Core.List.{flatten};
+ghost use Rattle.std.specs.Io.KnownBytes.{Appends};
+ghost use Rattle.std.specs.Prelude.{OnOk};
+ghost use Rattle.rules.specs.Listing.{listing, refusal_line as line_of_refusal};
+ghost use Rattle.printing.specs.Listings.{pieces};
+
 use lines::{header, refusal_line, router_lines};
+use std::io;
+use std::io::Write;
 use tables::{Outline, Reading, read};
 use webs::web_of;
 
@@ -9,37 +17,39 @@ fn blank() -> [u8; 16384] {
     [0; 16384]
 }
 
-// Prints the lines of an accepted table, a page for each router. This and the next two answer whether all was written.
-fn print_lines(table: &[u8], t: Outline) -> bool {
+// Prints the lines of an accepted table, a page for each router. An `Err` of this and the next two says that not all was written.
+fn print_lines<W: Write>(out: &mut W, table: &[u8], t: Outline) -> io::Result<()>
+    ensures { OnOk result (Appends (W.contents out.old) (W.contents out.new)
+        (flatten (pieces table.now (Reading.Accepted t)))) }
+{
     let mut page = blank();
     let length = header(&mut page);
-    if !io::write_all(STDOUT_FILENO, &page[..length]) {
-        return false;
-    }
+    out.write_all(&page[..length])?;
     let web = web_of(table, t);
-    let mut router = 0;
-    while router < t.routers {
+    for router in 0..t.routers {
         let length = router_lines(&mut page, web, t.routers, router);
-        if !io::write_all(STDOUT_FILENO, &page[..length]) {
-            return false;
-        }
-        router += 1;
+        out.write_all(&page[..length])?;
     }
-    true
+    Ok(())
 }
 
 // Prints a refusal.
-fn print_refusal(number: u8, place: usize) -> bool {
+fn print_refusal<W: Write>(out: &mut W, number: u8, place: usize) -> io::Result<()>
+    ensures { OnOk result (Appends (W.contents out.old) (W.contents out.new)
+        (line_of_refusal number place)) }
+{
     let mut page = blank();
     let length = refusal_line(&mut page, number, place);
-    io::write_all(STDOUT_FILENO, &page[..length])
+    out.write_all(&page[..length])
 }
 
 // Prints the listing of a table.
-pub fn print_listing(table: &[u8]) -> bool {
+pub fn print_listing<W: Write>(out: &mut W, table: &[u8]) -> io::Result<()>
+    ensures { OnOk result (Appends (W.contents out.old) (W.contents out.new) (listing table.now)) }
+{
     let reading = read(table);
     match reading {
-        Reading::Accepted(t) => print_lines(table, t),
-        Reading::Refused { number, place } => print_refusal(number, place),
+        Reading::Accepted(t) => print_lines(out, table, t),
+        Reading::Refused { number, place } => print_refusal(out, number, place),
     }
 }

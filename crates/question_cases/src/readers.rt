@@ -1,6 +1,8 @@
 // The link reader's question: a reader is made, and asked for every link and then three times more.
 use case_files::say;
 use links::{LinkReader, NextLink, next_link, read_links};
+use std::io;
+use std::io::Write;
 use tables::{Reading, read};
 
 // What a reader tells, and its place afterwards.
@@ -34,7 +36,7 @@ fn askings(table: &[u8]) -> usize {
 }
 
 // The field of what is told.
-fn told_field(next: NextLink) {
+fn told_field<W: Write>(out: &mut W, next: NextLink) -> io::Result<()> {
     match next {
         NextLink::One {
             a,
@@ -42,28 +44,26 @@ fn told_field(next: NextLink) {
             weight,
             behind,
         } => {
-            say::number(a as u64);
-            say::text(b"-");
-            say::digits(b as u64);
-            say::text(b":");
-            say::digits(weight as u64);
+            say::number(out, a as u64)?;
+            say::text(out, b"-")?;
+            say::digits(out, b as u64)?;
+            say::text(out, b":")?;
+            say::digits(out, weight as u64)
         }
-        NextLink::NoMore => say::text(b" ."),
+        NextLink::NoMore => say::text(out, b" ."),
     }
 }
 
 // The line of the question.
-pub fn links(table: &[u8]) {
-    say::letter(b'l');
+pub fn links<W: Write>(out: &mut W, table: &[u8]) -> io::Result<()> {
+    say::letter(out, b'l')?;
     let all = askings(table);
     let mut place = start(table);
-    let mut asked = 0;
-    while asked < all {
+    for _ in 0..all {
         let answer = ask(table, place);
         let next = answer.next;
-        told_field(next);
+        told_field(out, next)?;
         place = answer.place;
-        asked += 1;
     }
-    say::end();
+    say::end(out)
 }

@@ -1,0 +1,18 @@
+use Rattle.std.proofs.Common.{◌∙◌, subst, OnOk}
+use Rattle.std.specs.Io.KnownBytes.{Appends}
+use Rattle.tables.specs.declared.Reading.TheVariants.{Accepted, Refused}
+use Rattle.printing.proofs.Listings.{prints_the_listing}
+use Rattle.printing.proofs.Pages.{refusal_alone}
+use Rattle.printing.proofs.print_listing.Goals as goal
+
+pub returns-in-Accepted : goal.returns-in-Accepted
+returns-in-Accepted g c =
+    subst (λ l. OnOk c.print_lines.result (Appends (g.W.Write.contents c.args.out.now) (g.W.Write.contents c.print_lines.new.out) l))
+    (prints_the_listing c.args.table.now (Accepted c.in-Accepted.t) c.in-Accepted.ensures)
+    c.print_lines.ensures
+
+pub returns-in-Refused : goal.returns-in-Refused
+returns-in-Refused g c =
+    subst (λ l. OnOk c.print_refusal.result (Appends (g.W.Write.contents c.args.out.now) (g.W.Write.contents c.print_refusal.new.out) l))
+    (refusal_alone c.args.table.now c.in-Refused.number c.in-Refused.place ∙ prints_the_listing c.args.table.now (Refused c.in-Refused.number c.in-Refused.place) c.in-Refused.ensures)
+    c.print_refusal.ensures
