@@ -18,8 +18,8 @@ kit_is_built() {
     [ -f "$1" ] && [ -z "$(find "$kit_top/crates.txt" "$kit_top/crates" -name out -prune -o -type f -newer "$1" -print -quit)" ]
 }
 
-# kit_build FILE: proves and builds it, unless it is built.
-kit_build() {
+# kit_make FILE: proves and builds it, unless it is built.
+kit_make() {
     kit_is_built "$1" && return
     case $1 in
     "$kit_archive") (cd "$kit_top/crates/tracer" && rt lib) ;;
