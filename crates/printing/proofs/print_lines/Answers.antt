@@ -1,3 +1,5 @@
+-- `printing::print_lines` meets its contract.
+-- Assumes nothing.
 use Rattle.std.proofs.Common.{◌∙◌, subst}
 use Rattle.std.specs.Io.KnownBytes.{Appends}
 use Rattle.std.proofs.KnownBytes.{Appends-trans}

@@ -1,3 +1,5 @@
+-- `printing::print_listing` meets its contract: what its two ways print is the listing.
+-- Assumes nothing.
 use Rattle.std.proofs.Common.{◌∙◌, subst, OnOk}
 use Rattle.std.specs.Io.KnownBytes.{Appends}
 use Rattle.tables.specs.declared.Reading.TheVariants.{Accepted, Refused}

@@ -1,6 +1,5 @@
 -- `records::record_of` meets its contract. One law for each way out, in the order of the tests.
 -- Assumes nothing.
--- where tag and length are good
 use mathlib.Core.Path.{sym, ◌∙◌}
 use native.Mathlib.Omega.{arith}
 use Rattle.records.proofs.Stepping.{step_tag, step_length, step_contents, contents_length, step_number, step_record}

@@ -1,6 +1,5 @@
 -- `tables::judge` meets its contract. The loop keeps what judging from the place on tells of the whole; each record ends further on.
 -- Assumes nothing.
--- a turn in which the step gave a record, and what it found
 use mathlib.Core.Path.{◌∙◌, ap}
 use native.Mathlib.Omega.{arith}
 use Rattle.tables.proofs.Asked.{judged_as}
