@@ -13,9 +13,9 @@ kit_loader=("$kit_tools/lib/ld-linux-x86-64.so.2" --library-path "$kit_tools/lib
 kit_archive=$kit_top/crates/tracer/out/libtracer.a
 kit_listing=$kit_top/crates/listing/out/listing
 
-# kit_is_built FILE: it is there, and no source is newer.
+# kit_is_built FILE: it is there, and neither a source nor the kit is newer.
 kit_is_built() {
-    [ -f "$1" ] && [ -z "$(find "$kit_top/crates.txt" "$kit_top/crates" -name out -prune -o -type f -newer "$1" -print -quit)" ]
+    [ -f "$1" ] && [ -z "$(find "$kit/KIT-ID" "$kit_top/crates.txt" "$kit_top/crates" -name out -prune -o -newer "$1" -print -quit)" ]
 }
 
 # kit_make FILE: proves and builds it, unless it is built.

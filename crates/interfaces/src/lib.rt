@@ -176,7 +176,7 @@ fn interfaces_number(routers: u8, router: u64, size: u16, room: usize) -> u8
     0
 }
 
-// A router's next-hop sets for all destinations, of an accepted table. As a function of its own, so that the compiler makes no copy of the web.
+// A router's next-hop sets for all destinations, of an accepted table. A function of its own, since the web is wanted here alone.
 fn sets_of(table: &[u8], t: Outline, router: u8) -> [u64; 64]
     requires { IsAccepted table.now × (t ≡ outline_of table.now) }
     ensures { result ≡ map (next_hops (says table.now) router) (below 64) }

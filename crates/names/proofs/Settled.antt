@@ -1,4 +1,4 @@
--- Each promise of this crate allows one answer: the companion's answers are equal, and the parts handed back are the same, the ghost name aside.
+-- Each promise of this crate allows one answer: the companion's answers are equal, and the parts handed back are the same.
 -- Assumes nothing.
 use mathlib.Core.Path.{◌≡◌, refl, sym, ◌∙◌, ap}
 use mathlib.Core.List.{List}
