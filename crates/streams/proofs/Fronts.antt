@@ -1,9 +1,11 @@
 -- Known bytes that grew by a front part of some bytes, where more stand in front of those or behind them.
 -- Assumes nothing.
-use Rattle.std.proofs.Common.{◌≡◌, ℕ, zero, suc, ◌+◌, List, [], ◌∷◌, ◌++◌, length, take, refl, sym, ap, ◌∙◌, subst}
+use Rattle.std.proofs.Common.{◌≡◌, ℕ, zero, suc, ◌+◌, List, [], ◌∷◌, ◌++◌, length, take, refl, sym, ap, ◌∙◌, subst, Ok, Err}
 use Rattle.std.proofs.Math.Seq.{take-append-add}
 use Rattle.std.proofs.KnownBytes.{Appends-trans}
 use Rattle.std.specs.declared.option.Option.{Option}
+use Rattle.std.specs.declared.result.Result.{Result}
+use Rattle.std.specs.Result.{OnErr}
 use Rattle.std.specs.Io.KnownBytes.{Appends}
 use Rattle.streams.specs.Streams.{AppendsFront}
 
@@ -26,3 +28,8 @@ pub front_alone : (a c : Option (List ℕ)) (ys zs : List ℕ) → AppendsFront 
 front_alone a c ys zs q =
     let m = front_of_longer q.count ys zs in
     record { count = m.0; grown = subst (Appends a c) (sym m.1) q.grown }
+
+-- what holds whatever is answered holds on an error
+pub on_err : {T E P : Type 0} (r : Result T E) → P → OnErr r P
+on_err (Ok x) p = tt
+on_err (Err e) p = p

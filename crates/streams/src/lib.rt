@@ -1,8 +1,8 @@
 #![tactic(auto)]
 // Reading and writing with what an error leaves, of which std's `write_all` and `read_exact` say nothing.
-ghost use Rattle.std.specs.Io.KnownBytes.{Appends, Consumes};
+ghost use Rattle.std.specs.Io.KnownBytes.{Appends, Consumes, IsAtEnd};
 ghost use Rattle.std.specs.Io.{ReadsAtMost};
-ghost use Rattle.std.specs.Prelude.{take, IfOk, OnErr, OnOk};
+ghost use Rattle.std.specs.Prelude.{◌<◌, length, take, IfOk, OnErr, OnOk};
 ghost use Rattle.streams.specs.Streams.{AppendsFront, Shrinks};
 
 use std::io;
@@ -40,6 +40,7 @@ pub fn read_full<R: Read>(input: &mut R, array: &mut [u8]) -> io::Result<usize>
     ensures in_bounds { ReadsAtMost result array.new }
     ensures ok { IfOk result (λ n.
         Consumes (R.remaining input.old) (R.remaining input.new) (take n array.new)) }
+    ensures end { IfOk result (λ n. n < length array.new → IsAtEnd (R.remaining input.new)) }
     ensures err { OnErr result (Shrinks (R.remaining input.old) (R.remaining input.new)) }
 {
     let mut done = 0;
