@@ -18,16 +18,16 @@ front_of_longer (suc n) (x ∷ xs) ys = let m = front_of_longer n xs ys in (suc 
 -- all of xs was written, and then a front part of ys
 pub front_behind : (a b c : Option (List ℕ)) (xs ys zs : List ℕ) → Appends a b xs → AppendsFront b c ys → AppendsFront a c (xs ++ (ys ++ zs))
 front_behind a b c xs ys zs p q =
-    let m = front_of_longer q.count ys zs in
-    let joined : xs ++ take q.count ys ≡ take (length xs + m.0) (xs ++ (ys ++ zs)) =
+    let m = front_of_longer q.0 ys zs in
+    let joined : xs ++ take q.0 ys ≡ take (length xs + m.0) (xs ++ (ys ++ zs)) =
     ap (λ l. xs ++ l) (sym m.1) ∙ sym (take-append-add xs (ys ++ zs) m.0) in
-    record { count = length xs + m.0; grown = subst (Appends a c) joined (Appends-trans a b c xs _ p q.grown) }
+    (length xs + m.0, subst (Appends a c) joined (Appends-trans a b c xs _ p q.1))
 
 -- a front part of ys was written
 pub front_alone : (a c : Option (List ℕ)) (ys zs : List ℕ) → AppendsFront a c ys → AppendsFront a c (ys ++ zs)
 front_alone a c ys zs q =
-    let m = front_of_longer q.count ys zs in
-    record { count = m.0; grown = subst (Appends a c) (sym m.1) q.grown }
+    let m = front_of_longer q.0 ys zs in
+    (m.0, subst (Appends a c) (sym m.1) q.1)
 
 -- what holds whatever is answered holds on an error
 pub on_err : {T E P : Type 0} (r : Result T E) → P → OnErr r P

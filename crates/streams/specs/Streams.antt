@@ -3,17 +3,14 @@ use Rattle.std.specs.Prelude.{ℕ, List, take}
 use Rattle.std.specs.declared.option.Option.{Option}
 use Rattle.std.specs.Io.KnownBytes.{Appends, Consumes}
 
--- known bytes stay, and more may stand behind them
-pub record Grows (old new : Option (List ℕ)) : Type 0 where
-  pub more : List ℕ
-  pub grown : Appends old new more
-
 -- known bytes grow by a front part of bs
-pub record AppendsFront (old new : Option (List ℕ)) (bs : List ℕ) : Type 0 where
-  pub count : ℕ
-  pub grown : Appends old new (take count bs)
+abbrev pub AppendsFront : Option (List ℕ) → Option (List ℕ) → List ℕ → Type 0
+AppendsFront old new bs = (n : ℕ) × Appends old new (take n bs)
 
 -- known bytes are read off from the front only
-pub record Shrinks (old new : Option (List ℕ)) : Type 0 where
-  pub front : List ℕ
-  pub read : Consumes old new front
+abbrev pub Shrinks : Option (List ℕ) → Option (List ℕ) → Type 0
+Shrinks old new = (bs : List ℕ) × Consumes old new bs
+
+-- known bytes stay, and more may stand behind them
+unfoldable pub Grows : Option (List ℕ) → Option (List ℕ) → Type 0
+Grows old new = (bs : List ℕ) × Appends old new bs
