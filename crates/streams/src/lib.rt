@@ -2,7 +2,8 @@
 // Reading and writing with what an error leaves, of which std's `write_all` and `read_exact` say nothing.
 ghost use Rattle.std.specs.Io.KnownBytes.{Appends, Consumes, IsAtEnd};
 ghost use Rattle.std.specs.Io.{ReadsAtMost};
-ghost use Rattle.std.specs.Prelude.{◌<◌, length, take, IfOk, OnErr, OnOk};
+ghost use Rattle.std.specs.IoError.{error_kind};
+ghost use Rattle.std.specs.Prelude.{◌<◌, ◌≢◌, length, take, IfErr, IfOk, OnErr, OnOk};
 ghost use Rattle.streams.specs.Streams.{AppendsFront, Shrinks};
 
 use std::io;
@@ -12,6 +13,7 @@ use std::io::{ErrorKind, Read, Write};
 pub fn write_whole<W: Write>(out: &mut W, bytes: &[u8]) -> io::Result<()>
     ensures ok { OnOk result (Appends (W.contents out.old) (W.contents out.new) bytes.now) }
     ensures err { OnErr result (AppendsFront (W.contents out.old) (W.contents out.new) bytes.now) }
+    ensures retried { IfErr result (λ e. error_kind e ≢ ErrorKind.Interrupted) }
 {
     let mut done = 0;
     for _ in 0..u64::MAX {
