@@ -1,5 +1,7 @@
-#![tactic(auto)]
+#![tactic(auto, using(streams::proofs::Grows::grows_in_turn))]
 // Each question but the link reader's: asked, and its line printed.
+ghost use Rattle.streams.specs.Streams.{Grows};
+
 use case_files::records::at_most;
 use case_files::{arrays, say};
 use entries::EntryAnswer;
@@ -12,7 +14,9 @@ use std::io;
 use std::io::Write;
 use tables::Reading;
 
-pub fn reading<W: Write>(out: &mut W, table: &[u8]) -> io::Result<()> {
+pub fn reading<W: Write>(out: &mut W, table: &[u8]) -> io::Result<()>
+    ensures { Grows (W.contents out.old) (W.contents out.new) }
+{
     let answer = tables::read(table);
     match answer {
         Reading::Accepted(t) => {
@@ -24,7 +28,9 @@ pub fn reading<W: Write>(out: &mut W, table: &[u8]) -> io::Result<()> {
     say::end(out)
 }
 
-pub fn pairing<W: Write>(out: &mut W, old: &[u8], new: &[u8]) -> io::Result<()> {
+pub fn pairing<W: Write>(out: &mut W, old: &[u8], new: &[u8]) -> io::Result<()>
+    ensures { Grows (W.contents out.old) (W.contents out.new) }
+{
     let answer = pairs::pair(old, new);
     match answer {
         Pairing::Accepted { differ, old, new } => {
@@ -46,7 +52,9 @@ pub fn entry<W: Write>(
     router: u64,
     previous: u64,
     destination: u64,
-) -> io::Result<()> {
+) -> io::Result<()>
+    ensures { Grows (W.contents out.old) (W.contents out.new) }
+{
     let answer = entries::entry_of(table, router, previous, destination);
     match answer {
         EntryAnswer::Given(entry) => say::answered(out, b'e', entries::code(entry) as u64)?,
@@ -55,7 +63,9 @@ pub fn entry<W: Write>(
     say::end(out)
 }
 
-pub fn interfaces<W: Write>(out: &mut W, table: &[u8], router: u64, room: usize) -> io::Result<()> {
+pub fn interfaces<W: Write>(out: &mut W, table: &[u8], router: u64, room: usize) -> io::Result<()>
+    ensures { Grows (W.contents out.old) (W.contents out.new) }
+{
     let mut array = arrays::bytes();
     let behind = 8 + at_most(room, 4200);
     let answer = interfaces::interfaces(table, router, &mut array[8..behind]);
@@ -73,7 +83,9 @@ pub fn filling<W: Write>(
     destination: u64,
     room: usize,
     second_room: usize,
-) -> io::Result<()> {
+) -> io::Result<()>
+    ensures { Grows (W.contents out.old) (W.contents out.new) }
+{
     let mut costs = arrays::costs();
     let mut sets = arrays::sets();
     let behind_costs = 8 + at_most(room, 80);
@@ -93,7 +105,9 @@ pub fn filling<W: Write>(
     say::end(out)
 }
 
-pub fn chosen<W: Write>(out: &mut W, set: u64) -> io::Result<()> {
+pub fn chosen<W: Write>(out: &mut W, set: u64) -> io::Result<()>
+    ensures { Grows (W.contents out.old) (W.contents out.new) }
+{
     say::letter(out, b'c')?;
     say::number(out, sets::chosen(set) as u64)?;
     say::number(out, sets::size(set) as u64)?;
@@ -108,7 +122,9 @@ pub fn path<W: Write>(
     destination: u64,
     views: &[u8],
     room: usize,
-) -> io::Result<()> {
+) -> io::Result<()>
+    ensures { Grows (W.contents out.old) (W.contents out.new) }
+{
     let mut array = arrays::bytes();
     let behind = 8 + at_most(room, 4200);
     let answer = paths::path(old, new, source, destination, views, &mut array[8..behind]);
@@ -130,7 +146,9 @@ pub fn path<W: Write>(
 }
 
 // The companion's fields of a name.
-fn name_fields<W: Write>(out: &mut W, letter: u8, answer: Naming) -> io::Result<()> {
+fn name_fields<W: Write>(out: &mut W, letter: u8, answer: Naming) -> io::Result<()>
+    ensures { Grows (W.contents out.old) (W.contents out.new) }
+{
     match answer {
         Naming::Named { table, place, size } => {
             say::answered(out, letter, 1)?;
@@ -148,13 +166,17 @@ fn name_fields<W: Write>(out: &mut W, letter: u8, answer: Naming) -> io::Result<
 }
 
 // The part that is handed back.
-fn name_part<W: Write>(out: &mut W, part: &[u8]) -> io::Result<()> {
+fn name_part<W: Write>(out: &mut W, part: &[u8]) -> io::Result<()>
+    ensures { Grows (W.contents out.old) (W.contents out.new) }
+{
     say::text(out, b" =")?;
     say::text(out, part)?;
     say::end(out)
 }
 
-pub fn naming<W: Write>(out: &mut W, table: &[u8], router: u64) -> io::Result<()> {
+pub fn naming<W: Write>(out: &mut W, table: &[u8], router: u64) -> io::Result<()>
+    ensures { Grows (W.contents out.old) (W.contents out.new) }
+{
     name_fields(out, b'a', names::naming_in(table, router))?;
     name_part(out, names::name_in(table, router))
 }
@@ -164,7 +186,9 @@ pub fn naming_of_two<'a, W: Write>(
     old: &'a [u8],
     new: &'a [u8],
     router: u64,
-) -> io::Result<()> {
+) -> io::Result<()>
+    ensures { Grows (W.contents out.old) (W.contents out.new) }
+{
     name_fields(out, b'b', names::naming_in_two(old, new, router))?;
     name_part(out, names::name_in_two(old, new, router))
 }

@@ -1,4 +1,4 @@
-#![tactic(auto)]
+#![tactic(auto, using(streams::proofs::Grows::grows_in_turn))]
 // Question files and answer files, as tests/README.md lays them out.
 pub mod arrays;
 pub mod records;

@@ -2,9 +2,11 @@
 ghost use Rattle.std.specs.Counts.{IsPrefixLen};
 ghost use Rattle.std.specs.Io.{ReadsAtMost};
 ghost use Rattle.std.specs.Prelude.{◌≤◌, length, IsTrue, OnErr};
+ghost use Rattle.streams.specs.Streams.{Shrinks};
 
 use std::io;
 use std::io::Read;
+use streams::read_full;
 
 // More records than any file has.
 pub const MOST_RECORDS: u32 = 1000000;
@@ -37,23 +39,10 @@ fn number(head: &[u8; 32], from: usize, to: usize) -> u64
     x
 }
 
-// Reads until the array is full or the input ends, and answers how many bytes there were.
-fn read_full<R: Read>(input: &mut R, array: &mut [u8]) -> io::Result<usize>
-    ensures { ReadsAtMost result array.new }
-{
-    let mut done = 0;
-    while done < array.len() {
-        let got = input.read(&mut array[done..])?;
-        if got == 0 {
-            break;
-        }
-        done += got;
-    }
-    Ok(done)
-}
-
 // The next record's header.
-pub fn next_question<R: Read>(input: &mut R) -> io::Result<Question> {
+pub fn next_question<R: Read>(input: &mut R) -> io::Result<Question>
+    ensures { Shrinks (R.remaining input.old) (R.remaining input.new) }
+{
     let mut head = [0u8; 32];
     let got = read_full(input, &mut head)?;
     if got < 32 {
@@ -96,7 +85,8 @@ pub fn load() -> [u8; 8192] {
 // Reads so many bytes, or those that are left, and answers how many.
 fn read_first<R: Read>(input: &mut R, array: &mut [u8], most: usize) -> io::Result<usize>
     requires { most ≤ length array.old }
-    ensures { ReadsAtMost result array.new }
+    ensures in_bounds { ReadsAtMost result array.new }
+    ensures rest { Shrinks (R.remaining input.old) (R.remaining input.new) }
 {
     read_full(input, &mut array[..most])
 }
@@ -118,6 +108,7 @@ pub fn held<R: Read>(
 ) -> io::Result<usize>
     ensures in_bounds { ReadsAtMost result array.new }
     ensures err_only_reading { OnErr result (IsTrue comes) }
+    ensures rest { Shrinks (R.remaining input.old) (R.remaining input.new) }
 {
     if !comes {
         return Ok(within(array, held));

@@ -1,24 +1,8 @@
 #![tactic(auto)]
 // Prints the listing of the table on standard input.
-ghost use Rattle.std.specs.Io.{ReadsAtMost};
-
 use std::io;
-use std::io::{Read, Write};
-
-// Reads until the array is full or the input ends, and answers how many bytes there were.
-fn read_full<R: Read>(input: &mut R, array: &mut [u8]) -> io::Result<usize>
-    ensures { ReadsAtMost result array.new }
-{
-    let mut done = 0;
-    while done < array.len() {
-        let got = input.read(&mut array[done..])?;
-        if got == 0 {
-            break;
-        }
-        done += got;
-    }
-    Ok(done)
-}
+use std::io::Write;
+use streams::read_full;
 
 fn main(rt: HostRuntime) -> io::Result<()> {
     let mut table = [0u8; 4096];

@@ -1,6 +1,6 @@
 -- What is printed so far grows by a page for each router.
 -- Assumes nothing.
-use Rattle.std.proofs.Common.{◌≡◌, ℕ, ◌+◌, ◌≤◌, List, [], ◌∷◌, ◌++◌, take, drop, length, sym, ap, ap₂, ◌∙◌, append_assoc, append-nil, add-one, arith}
+use Rattle.std.proofs.Common.{◌≡◌, ℕ, zero, suc, ◌+◌, ◌-◌, ◌<◌, ◌≤◌, refl, le_refl, List, [], ◌∷◌, ◌++◌, take, drop, length, sym, ap, ap₂, ◌∙◌, append_assoc, append-nil, add-one, arith}
 use Rattle.std.proofs.Math.Seq.{take-append_seam}
 use mathlib.Core.List.{map, flatten}
 use Rattle.rules.specs.Words.{below}
@@ -54,3 +54,28 @@ all_pages table t n h k = let same : n ≡ t.routers = omega arith in ap (λ m. 
 pub refusal_alone : (table : List ℕ) (number place : ℕ) → refusal_line number place ≡ flatten (pieces table (Refused number place))
 unfolding pieces flatten
 refusal_alone table number place = sym (append-nil (refusal_line number place))
+
+-- more pages stand behind those of the routers below m
+pages_behind : (table : List ℕ) (t : Outline) (m j n : ℕ) → n ≡ m + j → (rest : List ℕ) × (pages_below table t n ≡ pages_below table t m ++ rest)
+pages_behind table t m zero n e = ([], ap (pages_below table t) {y = m} (omega arith) ∙ sym (append-nil _))
+pages_behind table t m (suc j) n e =
+    let page = page_of table t (m + j) in
+    let before = pages_behind table t m j (m + j) refl in (
+      before.0 ++ page,
+      ap (pages_below table t) {y = m + j + 1} (omega arith) ∙ sym (page_more table t (m + j)) ∙ ap (λ l. l ++ page) before.1 ∙ append_assoc _ _ page,
+    )
+
+-- what is written of an accepted table is the pages of the routers below one of its own, this one's page, and what stands behind it
+pub page_within : (table : List ℕ) (t : Outline) (router : ℕ) → router < t.routers
+    → (rest : List ℕ) × (flatten (pieces table (Accepted t)) ≡ pages_below table t router ++ (page_of table t router ++ rest))
+page_within table t router h =
+    let page = page_of table t router in
+    let more = pages_behind table t (router + 1) (t.routers - (router + 1)) t.routers (omega arith) in (
+      more.0,
+      sym (all_pages table t t.routers (le_refl _) (le_refl _)) ∙ more.1 ∙ ap (λ l. l ++ more.0) (sym (page_more table t router)) ∙ append_assoc _ page more.0,
+    )
+
+-- or the header, and what stands behind it
+pub header_first : (table : List ℕ) (t : Outline) → flatten (pieces table (Accepted t)) ≡ header ++ flatten (map (page_of table t) (below t.routers))
+unfolding pieces flatten
+header_first table t = refl

@@ -1,5 +1,7 @@
-#![tactic(auto)]
+#![tactic(auto, using(streams::proofs::Grows::grows_in_turn))]
 // Asks the library every question of a question file on standard input and prints the answers, as tests/README.md lays both out.
+ghost use Rattle.streams.specs.Streams.{Grows};
+
 mod readers;
 
 use case_files::records::{MOST_RECORDS, Question, held, load, next_question};
@@ -7,13 +9,16 @@ use std::io;
 use std::io::Write;
 
 // The line of one question; what is no question has none.
+#[tactic(auto, using(streams::proofs::Grows::grows_by_none))]
 fn answer<'a, W: Write>(
     out: &mut W,
     q: Question,
     old: &'a [u8],
     new: &'a [u8],
     views: &'a [u8],
-) -> io::Result<()> {
+) -> io::Result<()>
+    ensures { Grows (W.contents out.old) (W.contents out.new) }
+{
     let letter = q.letter;
     match letter {
         b'r' => case_answers::reading(out, old),

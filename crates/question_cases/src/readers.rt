@@ -1,4 +1,6 @@
 // The link reader's question: a reader is made, and asked for every link and then three times more.
+ghost use Rattle.streams.specs.Streams.{Grows};
+
 use case_files::say;
 use links::{LinkReader, NextLink, next_link, read_links};
 use std::io;
@@ -36,7 +38,9 @@ fn askings(table: &[u8]) -> usize {
 }
 
 // The field of what is told.
-fn told_field<W: Write>(out: &mut W, next: NextLink) -> io::Result<()> {
+fn told_field<W: Write>(out: &mut W, next: NextLink) -> io::Result<()>
+    ensures { Grows (W.contents out.old) (W.contents out.new) }
+{
     match next {
         NextLink::One {
             a,
@@ -55,7 +59,9 @@ fn told_field<W: Write>(out: &mut W, next: NextLink) -> io::Result<()> {
 }
 
 // The line of the question.
-pub fn links<W: Write>(out: &mut W, table: &[u8]) -> io::Result<()> {
+pub fn links<W: Write>(out: &mut W, table: &[u8]) -> io::Result<()>
+    ensures { Grows (W.contents out.old) (W.contents out.new) }
+{
     say::letter(out, b'l')?;
     let all = askings(table);
     let mut place = start(table);
