@@ -33,7 +33,7 @@ pub fn write_whole<W: Write>(out: &mut W, bytes: &[u8]) -> io::Result<()>
             }
         }
     }
-    let message = "gave up writing after 2^64 tries";
+    let message = "gave up writing after 2^64 - 1 tries";
     Err(io::Error::new(ErrorKind::TimedOut, message))
 }
 
