@@ -1,5 +1,6 @@
-#![tactic(auto, using(streams::proofs::Grows::grows_in_turn))]
 // Each question but the link reader's: asked, and its line printed.
+#![tactic(auto, using(streams::proofs::Grows::grows_in_turn))]
+
 ghost use Rattle.streams.specs.Streams.{Grows};
 
 use case_files::records::at_most;

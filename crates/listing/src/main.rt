@@ -1,5 +1,6 @@
-#![tactic(auto)]
 // Prints the listing of the table on standard input.
+#![tactic(auto)]
+
 use std::io;
 use std::io::Write;
 use streams::read_full;

@@ -1,5 +1,6 @@
-#![tactic(auto)]
 // Prints every listing that a question file on standard input asks for, as tests/README.md lays the file out.
+#![tactic(auto)]
+
 use case_files::records::{MOST_RECORDS, at_most, held, load, next_question};
 use std::io;
 

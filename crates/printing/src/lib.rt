@@ -1,5 +1,6 @@
-#![tactic(auto)]
 // A table's listing printed page by page.
+#![tactic(auto)]
+
 ghost use mathlib.Core.List.{flatten};
 ghost use Rattle.std.specs.Io.KnownBytes.{Appends};
 ghost use Rattle.std.specs.Prelude.{OnErr, OnOk};

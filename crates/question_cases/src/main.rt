@@ -1,5 +1,6 @@
-#![tactic(auto, using(streams::proofs::Grows::grows_in_turn))]
 // Asks the library every question of a question file on standard input and prints the answers, as tests/README.md lays both out.
+#![tactic(auto, using(streams::proofs::Grows::grows_in_turn))]
+
 ghost use Rattle.streams.specs.Streams.{Grows};
 
 mod readers;

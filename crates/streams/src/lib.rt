@@ -1,5 +1,6 @@
-#![tactic(auto)]
 // Reading and writing with what an error leaves, of which std's `write_all` and `read_exact` say nothing.
+#![tactic(auto)]
+
 ghost use Rattle.std.specs.Io.KnownBytes.{Appends, Consumes, IsAtEnd};
 ghost use Rattle.std.specs.Io.{ReadsAtMost};
 ghost use Rattle.std.specs.IoError.{error_kind};
