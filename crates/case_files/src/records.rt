@@ -1,17 +1,17 @@
 // The records of a question file, and the loads that are held.
-ghost use Rattle.std.specs.Counts.{IsPrefixLen};
-ghost use Rattle.std.specs.Io.{ReadsAtMost};
-ghost use Rattle.std.specs.Prelude.{◌≤◌, length, IsTrue, OnErr};
+ghost use Rattle.std.specs.Io.KnownBytes.{Consumes};
+ghost use Rattle.std.specs.Prelude.{◌≡◌, ◌≤◌, ℕ, List, [], length, take, OnErr, OnOk};
 ghost use Rattle.streams.specs.Streams.{Shrinks};
 
 use std::io;
 use std::io::Read;
+use std::marker::Model;
 use streams::read_full;
 
 // More records than any file has.
 pub const MOST_RECORDS: u32 = 1000000;
 
-// A record's header. At the end of the file the letter is 0.
+// A record's header. The letter stays a byte: an enum of the kinds would be the `match` on it once more.
 #[derive(Clone, Copy)]
 pub struct Question {
     pub letter: u8,
@@ -23,95 +23,78 @@ pub struct Question {
     pub z: u64,
 }
 
-// A byte as a number of 64 bits.
-fn wide(byte: u8) -> u64 {
-    byte as u64
+// The number in some bytes, two or eight of them, high byte first.
+fn number(bytes: &[u8]) -> u64 {
+    bytes.iter().fold(0, |x, byte| (x << 8) | u64::from(*byte))
 }
 
-// The number in the bytes from one place of a header up to another, high byte first.
-fn number(head: &[u8; 32], from: usize, to: usize) -> u64
-    requires { to ≤ 32 }
-{
-    let mut x = 0;
-    for i in from..to {
-        x = (x << 8) | wide(head[i]);
+impl Question {
+    // The header in its bytes.
+    fn from_bytes(head: &[u8; 32]) -> Question {
+        Question {
+            letter: head[0],
+            load: number(&head[2..4]) as usize,
+            room: number(&head[4..6]) as usize,
+            second_room: number(&head[6..8]) as usize,
+            x: number(&head[8..16]),
+            y: number(&head[16..24]),
+            z: number(&head[24..32]),
+        }
     }
-    x
 }
 
-// The next record's header.
-pub fn next_question<R: Read>(input: &mut R) -> io::Result<Question>
+// The next record's header, until the file ends or a header has the letter 0.
+pub fn next_question<R: Read>(input: &mut R) -> io::Result<Option<Question>>
     ensures { Shrinks (R.remaining input.old) (R.remaining input.new) }
 {
-    let mut head = [0u8; 32];
-    let got = read_full(input, &mut head)?;
-    if got < 32 {
-        return Ok(Question {
-            letter: 0,
-            load: 0,
-            room: 0,
-            second_room: 0,
-            x: 0,
-            y: 0,
-            z: 0,
-        });
+    let mut head = [0; 32];
+    if read_full(input, &mut head)? < head.len() || head[0] == 0 {
+        return Ok(None);
     }
-    Ok(Question {
-        letter: head[0],
-        load: number(&head, 2, 4) as usize,
-        room: number(&head, 4, 6) as usize,
-        second_room: number(&head, 6, 8) as usize,
-        x: number(&head, 8, 16),
-        y: number(&head, 16, 24),
-        z: number(&head, 24, 32),
-    })
+    Ok(Some(Question::from_bytes(&head)))
 }
 
-// The smaller of two numbers.
-pub fn at_most(x: usize, most: usize) -> usize
-    ensures { (result ≤ x) × (result ≤ most) }
-{
-    if most < x {
-        return most;
-    }
-    x
-}
-
-// An empty load.
-pub fn load() -> [u8; 8192] {
-    [0; 8192]
-}
-
-// Reads so many bytes, or those that are left, and answers how many.
-fn read_first<R: Read>(input: &mut R, array: &mut [u8], most: usize) -> io::Result<usize>
-    requires { most ≤ length array.old }
-    ensures in_bounds { ReadsAtMost result array.new }
-    ensures rest { Shrinks (R.remaining input.old) (R.remaining input.new) }
-{
-    read_full(input, &mut array[..most])
-}
-
-// So many bytes of an array, or all that it has.
-fn within(array: &[u8], size: usize) -> usize
-    ensures { IsPrefixLen result array.now }
-{
-    at_most(size, array.len())
-}
-
-// A load's length: where it comes now it is read, else it stays.
-pub fn held<R: Read>(
-    input: &mut R,
-    comes: bool,
-    array: &mut [u8; 8192],
+// A load that is held until another comes: the first bytes of an array.
+#[derive(Drop)]
+pub struct Load {
+    array: [u8; 8192],
     held: usize,
-    size: usize,
-) -> io::Result<usize>
-    ensures in_bounds { ReadsAtMost result array.new }
-    ensures err_only_reading { OnErr result (IsTrue comes) }
-    ensures rest { Shrinks (R.remaining input.old) (R.remaining input.new) }
-{
-    if !comes {
-        return Ok(within(array, held));
+}
+
+impl Model for Load {
+    ghost Value = { List ℕ };
+
+    ghost view = { λ load. take load.held load.array };
+
+    ghost invariant = { λ load. load.held ≤ 8192 };
+}
+
+impl Load {
+    // Nothing is held.
+    pub fn new() -> Load
+        ensures { result ≡ [] }
+    {
+        Load {
+            array: [0; 8192],
+            held: 0,
+        }
     }
-    read_first(input, array, at_most(size, 8192))
+
+    // The bytes that are held.
+    pub fn bytes(&self) -> &[u8]
+        ensures { result.now ≡ self.now }
+    {
+        &self.array[..self.held]
+    }
+
+    // Reads so many bytes, or those that are left, in place of what is held.
+    pub fn read<R: Read>(&mut self, input: &mut R, size: usize) -> io::Result<()>
+        ensures ok { OnOk result (Consumes (R.remaining input.old) (R.remaining input.new) self.new) }
+        ensures err { OnErr result (Shrinks (R.remaining input.old) (R.remaining input.new)
+            × (length self.new ≡ length self.old)) }
+        ensures fits { length self.new ≤ 8192 }
+    {
+        self.held = read_full(input, &mut self.array[..size.min(8192)])?;
+        Ok(())
+    }
 }

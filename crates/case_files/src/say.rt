@@ -1,8 +1,8 @@
 // Printing the fields of an answer's line.
-ghost use Rattle.std.specs.Prelude.{◌<◌, ◌≤◌};
+ghost use Rattle.std.specs.Prelude.{◌<◌, ◌≤◌, ◌*◌, length};
 ghost use Rattle.streams.specs.Streams.{Grows};
 
-use crate::records::at_most;
+use refusals::Refusal;
 use std::io;
 use std::io::Write;
 use streams::write_whole;
@@ -22,14 +22,14 @@ pub fn end<W: Write>(out: &mut W) -> io::Result<()>
     text(out, b"\n")
 }
 
-// A number's decimal digits at the end of an array, and the place of the first.
+// A number's decimal digits at the end of an array, and the place of the first. By hand, and then written by `text`: of what `write!` leaves in a
+// writer after an error nothing is known.
 fn decimal(array: &mut [u8; 20], x: u64) -> usize
     ensures { result ≤ 20 }
 {
     let mut rest = x;
-    for i in 0..20 {
-        let at = 19 - i;
-        array[at] = 48 + (rest % 10) as u8;
+    for (at, digit) in array.iter_mut().enumerate().rev() {
+        *digit = b'0' + (rest % 10) as u8;
         rest /= 10;
         if rest == 0 {
             return at;
@@ -62,108 +62,82 @@ pub fn letter<W: Write>(out: &mut W, byte: u8) -> io::Result<()>
     text(out, &[byte])
 }
 
-// The letter of a question that is answered, no refusal, and a number.
-pub fn answered<W: Write>(out: &mut W, question: u8, x: u64) -> io::Result<()>
+// Fields that are numbers.
+#[tactic(auto, using(streams::proofs::Grows::grows_by_none, streams::proofs::Grows::grows_in_turn))]
+pub fn numbers<W: Write>(out: &mut W, all: &[u64]) -> io::Result<()>
     ensures { Grows (W.contents out.old) (W.contents out.new) }
 {
-    letter(out, question)?;
-    text(out, b" 0 0 0")?;
-    number(out, x)
-}
-
-// The letter of a question that is refused, the refusal, and as many zeros as an answer has numbers.
-pub fn refused<W: Write>(
-    out: &mut W,
-    question: u8,
-    refusal: u8,
-    table: u8,
-    place: usize,
-    zeros: u8,
-) -> io::Result<()>
-    ensures { Grows (W.contents out.old) (W.contents out.new) }
-{
-    letter(out, question)?;
-    number(out, refusal as u64)?;
-    number(out, table as u64)?;
-    number(out, place as u64)?;
-    for _ in 0..zeros {
-        text(out, b" 0")?;
+    for x in all {
+        number(out, *x)?;
     }
     Ok(())
 }
 
-// A hexadecimal digit.
-fn digit(x: u8) -> u8
-    requires { x < 16 }
+// A question's letter, its refusal and the numbers that it answers, each 0 where there is none.
+pub fn answer<W: Write, const N: usize>(
+    out: &mut W,
+    question: u8,
+    answer: Result<[u64; N], Refusal>,
+) -> io::Result<()>
+    ensures { Grows (W.contents out.old) (W.contents out.new) }
 {
-    if x < 10 {
-        return 48 + x;
-    }
-    87 + x
-}
-
-// The first of a byte's two digits.
-fn high_digit(byte: u8) -> u8 {
-    digit(byte / 16)
-}
-
-// The second.
-fn low_digit(byte: u8) -> u8 {
-    digit(byte % 16)
+    let (refusal, values) = match answer {
+        Ok(values) => ([0; 3], values),
+        Err(r) => {
+            let reason = r.reason.number();
+            let table = r.table.number();
+            ([reason as u64, table as u64, r.place as u64], [0; N])
+        }
+    };
+    letter(out, question)?;
+    numbers(out, &refusal)?;
+    numbers(out, &values)
 }
 
 // The last hexadecimal digits of a number, as many as an array has places.
 fn hexadecimal(array: &mut [u8], x: u64) {
     let mut rest = x;
-    for place in array.iter_mut().rev() {
-        *place = digit((rest % 16) as u8);
+    for digit in array.iter_mut().rev() {
+        *digit = b"0123456789abcdef"[(rest % 16) as usize];
         rest /= 16;
     }
 }
 
-// A field that is an array of so many bytes.
+// A field that is an array's elements, each in so many hexadecimal digits.
+fn elements<W: Write, T: Copy + Into<u64>>(
+    out: &mut W,
+    array: &[T],
+    digits: usize,
+) -> io::Result<()>
+    requires some { 0 < digits }
+    requires room { digits * length array.now ≤ 8432 }
+    ensures { Grows (W.contents out.old) (W.contents out.new) }
+{
+    let mut page = [0u8; 8432];
+    for (place, x) in page.chunks_mut(digits).zip(array) {
+        hexadecimal(place, (*x).into());
+    }
+    text(out, b" ")?;
+    text(out, &page[..digits * array.len()])
+}
+
+// A field that is an array of so many bytes. This and the next two give the room that `elements` asks for.
 pub fn bytes<W: Write>(out: &mut W, array: &[u8; 4216], size: usize) -> io::Result<()>
     ensures { Grows (W.contents out.old) (W.contents out.new) }
 {
-    let all = at_most(size, 4216);
-    let mut page = [0u8; 8432];
-    for i in 0..all {
-        page[2 * i] = high_digit(array[i]);
-        page[2 * i + 1] = low_digit(array[i]);
-    }
-    text(out, b" ")?;
-    text(out, &page[..2 * all])
-}
-
-// A cost as a number of 64 bits.
-fn wide(cost: u32) -> u64 {
-    cost as u64
+    elements(out, &array[..size.min(4216)], 2)
 }
 
 // A field that is an array of so many costs.
 pub fn costs<W: Write>(out: &mut W, array: &[u32; 96], size: usize) -> io::Result<()>
     ensures { Grows (W.contents out.old) (W.contents out.new) }
 {
-    let all = at_most(size, 96);
-    text(out, b" ")?;
-    for i in 0..all {
-        let mut digits = [0u8; 8];
-        hexadecimal(&mut digits, wide(array[i]));
-        text(out, &digits)?;
-    }
-    Ok(())
+    elements(out, &array[..size.min(96)], 8)
 }
 
 // A field that is an array of so many sets.
 pub fn sets<W: Write>(out: &mut W, array: &[u64; 96], size: usize) -> io::Result<()>
     ensures { Grows (W.contents out.old) (W.contents out.new) }
 {
-    let all = at_most(size, 96);
-    text(out, b" ")?;
-    for i in 0..all {
-        let mut digits = [0u8; 16];
-        hexadecimal(&mut digits, array[i]);
-        text(out, &digits)?;
-    }
-    Ok(())
+    elements(out, &array[..size.min(96)], 16)
 }

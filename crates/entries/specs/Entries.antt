@@ -1,14 +1,14 @@
 -- An entry by the next-hop set alone, its code, and what the entry question answers, in document 01's numbers.
-use Rattle.std.specs.Prelude.{◌≡◌, ℕ}
+use Rattle.std.specs.Prelude.{◌≡◌, ℕ, Result, IfOk}
 use Rattle.rules.specs.Words.{◌<?◌}
 use Rattle.rules.specs.NextHops.{has, chosen}
 use Rattle.rules.specs.Entries.{Entry, deliver, discard, no_route, forward, Rules, entry_by, code}
-use Rattle.rules.specs.Answers.{Answer, answered, refused_with, IsNumber}
+use Rattle.rules.specs.Answers.{Answer}
 use Rattle.rules.specs.EntryQuestion.{EntryInputs, entry_asked, entry_answer}
 use Rattle.entries.specs.declared.Entry.{Entry as EntryHere}
 use Rattle.entries.specs.declared.Entry.TheVariants.{Deliver, Discard, NoRoute, Forward}
-use Rattle.entries.specs.declared.EntryAnswer.{EntryAnswer}
-use Rattle.entries.specs.declared.EntryAnswer.TheVariants.{Given, Refused}
+use Rattle.refusals.specs.Refusals.{answer_told}
+use Rattle.refusals.specs.declared.Refusal.{Refusal}
 
 -- ---- one entry
 
@@ -38,15 +38,13 @@ Codes e r = r ≡ code (entry_told e)
 -- ---- the entry question
 
 -- the numbers of each case
-unfoldable pub entry_numbers : EntryAnswer → Answer ℕ
-entry_numbers (Given e) = answered (code (entry_told e))
-entry_numbers (Refused number place) = refused_with 0 number 0 place
+abbrev pub entry_numbers : Result EntryHere Refusal → Answer ℕ
+entry_numbers = answer_told 0 (λ e. code (entry_told e))
 
--- the entry is the one asked for; a refusal has a number
-abbrev pub Own : EntryInputs → EntryAnswer → Type 0
-Own q (Given e) = entry_told e ≡ entry_asked q
-Own q (Refused number place) = IsNumber number
+-- the entry is the one asked for
+abbrev pub Own : EntryInputs → Result EntryHere Refusal → Type 0
+Own q r = IfOk r (λ e. entry_told e ≡ entry_asked q)
 
 -- r answers the entry question
-abbrev pub Enters : EntryInputs → EntryAnswer → Type 0
+abbrev pub Enters : EntryInputs → Result EntryHere Refusal → Type 0
 Enters q r = (entry_numbers r ≡ entry_answer q) × Own q r

@@ -1,19 +1,22 @@
 -- The cells of an interface table, by the router's next-hop sets.
 -- Assumes nothing.
-use mathlib.Core.Path.{◌≡◌, refl, sym, ◌∙◌, ap}
+use mathlib.Core.Path.{◌≡◌, refl, sym, ◌∙◌, ap, subst}
 use mathlib.Core.Logic.{◌≢◌, inl}
 use mathlib.Core.Bool.{Bool, true, false}
-use mathlib.Core.List.{List, ◌∷◌, ◌++◌, map, flatten}
+use mathlib.Core.List.{List, [], ◌∷◌, ◌++◌, map, flatten}
 use Prim.Native.Nat.{ℕ, zero, suc, ◌+◌, ◌^◌, ◌≤◌, ◌<◌}
-use native.Mathlib.Numerals.{add-one}
 use native.Mathlib.Decide.{ℕ_discrete, dec_lt}
 use native.Mathlib.Omega.{arith}
+use denote.Param.Members.{Mut, Called}
 use lib.Bits.{bit_or}
 use lib.Dec.{eqb}
-use lib.ListN.{length, get_or, take, drop, replicate, get_or-replicate}
-use lib.Seq.{length-take-le}
+use lib.ListN.{length, get_or, take, drop, set, replicate, get_or-replicate, length-replicate}
+use lib.Seq.{ext_get_or, get_or-take}
 use borrow.Author.Tests.{eq-eqb, ne_eqb}
-use Rattle.rules.specs.Words.{pick, below}
+use Rattle.std.specs.Array.{IsFromFnResult, IsFromFnResultFrom}
+use Rattle.std.specs.List.{fold}
+use Rattle.std.proofs.lemmas.List.Edits.{fill_by_more}
+use Rattle.rules.specs.Words.{pick, below, All}
 use Rattle.rules.specs.Layout.{Table, Obeys}
 use Rattle.rules.specs.Table.{says}
 use Rattle.rules.specs.NextHops.{has, chosen, next_hops}
@@ -21,76 +24,69 @@ use Rattle.rules.specs.Entries.{starts_here, entry_by, entry, code, cell, row, i
 use Rattle.rules.specs.Demand1.{IsAccepted}
 use Rattle.rules.specs.InterfacesQuestion.{cells}
 use Rattle.rules.proofs.Acceptance.{obeys}
-use Rattle.rules.proofs.PlaceByPlace.{Filled, all_of_filled}
-use Rattle.rules.proofs.Basics.{values_same, value_behind, neither, pick_t, pick_f, value_at}
+use Rattle.rules.proofs.Basics.{All-at, values_same, length_values, value_behind, neither, pick_t, pick_f, value_at}
 use Rattle.rules.proofs.Sets.{has_below, empty_sets, sets_fit}
 use Rattle.tables.specs.Readings.{outline_of}
 use Rattle.tables.specs.declared.Outline.{Outline}
-use Rattle.tables.proofs.Asked.{own_routers}
-use Rattle.sets.proofs.Members.{nobody}
+use Rattle.sets.proofs.ByMembers.{nobody}
 use Rattle.sets.proofs.Bits.{has_joined}
-use Rattle.entries.specs.declared.Entry.{Entry}
-use Rattle.entries.specs.Entries.{entry_told, pipo, Decides, Codes}
+use Rattle.entries.specs.Entries.{entry_told, pipo}
 use Rattle.entries.proofs.Entries.{delivers, cut_off, discards, sends, by_set}
 use Rattle.interfaces.specs.Interfaces.{code_by, start_codes, code_from, cell_from, members_of, rows}
 
--- ---- row 255
+-- values that are written place by place
+pub values_of : (f : ℕ → ℕ) (l : List ℕ) (n : ℕ) → length l ≡ n → ((k : ℕ) → k < n → get_or l k 0 ≡ f k) → l ≡ map f (below n)
+values_of f l n e h =
+    ext_get_or 0 l (map f (below n)) (e ∙ sym (length_values f n)) (λ k b. h k (omega arith) ∙ sym (value_at f n k 0 (omega arith)))
 
-pub start_code : (sets : List ℕ) (i d : ℕ) (e : Entry) (v : ℕ) → Decides (get_or sets d 0) (get_or sets d 0) i starts_here d e → Codes e v → v ≡ code_by sets i starts_here d
-unfolding code_by
-start_code sets i d e v p q = q ∙ ap code p
+-- values that calls give, one for each place: each call answers a function's value and leaves what is called as it was
+module _ {F : Type 0} {g : Mut F (ℕ × Unit {0}) ℕ} {f : F} (l : List ℕ) (v : ℕ → ℕ)
+    (h : (k y : ℕ) (q : F) → Called g f (k, tt) y q → (y ≡ v k) × (q ≡ f)) where
+  value_called : (n i : ℕ) → IsFromFnResultFrom g f l i n → (k : ℕ) → i ≤ k → k < i + n → get_or l k 0 ≡ v k
+  value_called zero i e k a b = absurd (omega arith)
+  value_called (suc n) i (q, y, at, called, rest) k a b =
+      go (ℕ_discrete k i) (value_called n (i + 1) (subst (λ q. IsFromFnResultFrom g q l (i + 1) n) (h i y q called).1 rest) k)
+    where
+      go : Dec (k ≡ i) → (i + 1 ≤ k → k < i + 1 + n → get_or l k 0 ≡ v k) → get_or l k 0 ≡ v k
+      go (yes e) ih = rw e (at.1 0 ∙ (h i y q called).0)
+      go (no e) ih = ih (omega arith) (omega arith)
 
-pub whole_codes : (sets : List ℕ) (i : ℕ) (lent codes : List ℕ) (d : ℕ) → lent ≡ replicate 64 0 → Filled (code_by sets i starts_here) lent codes d → 64 ≤ d
-    → codes ≡ start_codes sets i
-unfolding start_codes
-whole_codes sets i lent codes d e w h =
-    all_of_filled (code_by sets i starts_here) lent codes d w 64 (ap length e) h
+  pub values_called : (n : ℕ) → IsFromFnResult g f l n → l ≡ map v (below n)
+  values_called n made = values_of v l n made.long (λ k b. value_called n 0 made.each k (omega arith) (omega arith))
+
+-- one value more
+pub one_more : (f : ℕ → ℕ) (l : List ℕ) (i v : ℕ) → i < length l → v ≡ f i → ((k : ℕ) → k < i → get_or l k 0 ≡ f k)
+    → (k : ℕ) → k < i + 1 → get_or (set l i v) k 0 ≡ f k
+one_more f l i v b e h = rw e (fill_by_more f l i 0 b h)
+
+-- a loop that writes such values: its step and its end
+pub ruleset filling = (one_more, values_of)
 
 -- a router that is no member of all the sets is in none of them
-nowhere : (sets : List ℕ) (n j : ℕ) → has (members_of sets n) j ≡ false → (d : ℕ) → d < n → has (get_or sets d 0) j ≡ false
-unfolding members_of
-nowhere sets zero j e d h = absurd (omega arith)
-nowhere sets (suc n) j e d h = go (ℕ_discrete d n) (neither _ _ (sym (has_joined j (members_of sets n) (get_or sets n 0)) ∙ e)) (nowhere sets n j)
-  where
-    go : Dec (d ≡ n) → (has (members_of sets n) j ≡ false) × (has (get_or sets n 0) j ≡ false)
-        → (has (members_of sets n) j ≡ false → (d : ℕ) → d < n → has (get_or sets d 0) j ≡ false) → has (get_or sets d 0) j ≡ false
-    go (yes q) f ih = rw q f.1
-    go (no q) f ih = ih f.0 d (omega arith)
-
--- all members, set by set
-pub no_members : (sets : List ℕ) → 0 ≡ members_of sets 0
-unfolding members_of
-no_members sets = refl
-
-pub more_members : (sets : List ℕ) (members d : ℕ) → members ≡ members_of sets d → bit_or members (get_or sets d 0) ≡ members_of sets (d + 1)
-unfolding members_of
-more_members sets members d e = ap (λ m. bit_or m (get_or sets d 0)) e ∙ ap (members_of sets) (sym (add-one d))
-
-pub whole_members : (sets : List ℕ) (members d : ℕ) → members ≡ members_of sets d → d ≤ 64 → 64 ≤ d → members ≡ members_of sets 64
-whole_members sets members d e h l =
-    let q : d ≡ 64 = omega arith in
-    e ∙ ap (members_of sets) q
+nowhere : (sets : List ℕ) (m j : ℕ) → has (fold bit_or m sets) j ≡ false → (has m j ≡ false) × All (λ s. has s j ≡ false) sets
+nowhere [] m j e = (e, tt)
+nowhere (set ∷ sets) m j e =
+    let h : (has (bit_or m set) j ≡ false) × All (λ s. has s j ≡ false) sets = nowhere sets (bit_or m set) j e in
+    let f : (has m j ≡ false) × (has set j ≡ false) = neither _ _ (sym (has_joined j m set) ∙ h.0) in
+    (f.0, (f.1, h.1))
 
 -- ---- the rows, by the sets and the codes of row 255
 
-module _ (sets codes : List ℕ) (i : ℕ) where
-  -- row 255, in the first part of what is lent
-  pub start_row : (n : ℕ) (lent row : List ℕ) → cells n ≤ length lent → row ≡ map (λ d. get_or codes d 0) (below (length (take n lent)))
-      → row ≡ map (cell_from sets codes i starts_here) (below n)
+module _ (sets codes : List ℕ) (i n : ℕ) (row : List ℕ) where
+  -- row 255
+  pub start_row : row ≡ take n codes → length row ≡ n → row ≡ map (cell_from sets codes i starts_here) (below n)
   unfolding cell_from
-  start_row n lent row h q = q ∙ ap (λ k. map (λ d. get_or codes d 0) (below k)) (length-take-le n lent (omega arith))
+  start_row e h = values_of _ row n h (λ k b. ap (λ l. get_or l k 0) e ∙ get_or-take n codes k 0 b)
 
-  module _ (n j : ℕ) (row : List ℕ) (b : j < 64) where
+  module _ (j : ℕ) (b : j < 64) where
     below_255 : eqb j starts_here ≡ false
     below_255 = ne_eqb j starts_here (omega arith)
 
-    pub own_row : n ≤ 64 → j ≡ i → (own : List ℕ) → own ≡ replicate 64 131 → row ≡ map (λ d. get_or own d 0) (below n)
-        → row ≡ map (cell_from sets codes i j) (below n)
+    pub own_row : j ≡ i → row ≡ replicate n 131 → row ≡ map (cell_from sets codes i j) (below n)
     unfolding cell_from
-    own_row h e own o q =
-        q
-        ∙ values_same _ _ n
-        (λ d l. ap (λ c. get_or c d 0) o ∙ get_or-replicate 64 d 131 0 (omega arith) ∙ sym (pick_f _ _ _ below_255 ∙ pick_t _ _ _ (eq-eqb i j (sym e))))
+    own_row e o =
+        values_of _ row n (ap length o ∙ length-replicate n 131)
+        (λ d l. ap (λ c. get_or c d 0) o ∙ get_or-replicate n d 131 0 l ∙ sym (pick_f _ _ _ below_255 ∙ pick_t _ _ _ (eq-eqb i j (sym e))))
 
     module _ (a : j ≢ i) where
       pub other_row : row ≡ map (code_from sets codes j) (below n) → row ≡ map (cell_from sets codes i j) (below n)
@@ -98,12 +94,12 @@ module _ (sets codes : List ℕ) (i : ℕ) where
       other_row q = q ∙ values_same _ _ n (λ d h. sym (pick_f _ _ _ below_255 ∙ pick_f _ _ _ (ne_eqb i j (λ e. a (sym e)))))
 
       -- the row of a previous hop that is in no set is row 255
-      pub same_row : (members : ℕ) → n ≤ 64 → members ≡ members_of sets 64 → has members j ≡ false → row ≡ map (λ d. get_or codes d 0) (below n)
-          → row ≡ map (cell_from sets codes i j) (below n)
+      pub same_row : length row ≡ n → has (members_of sets) j ≡ false → row ≡ take n codes → row ≡ map (cell_from sets codes i j) (below n)
       unfolding code_from
-      same_row members h m f q =
+      same_row h f q =
           other_row
-          (q ∙ values_same _ _ n (λ d l. sym (pick_f _ _ _ (nowhere sets 64 j (ap (λ m. has m j) (sym m) ∙ f) d (omega arith)))))
+          (values_of _ row n h
+          (λ d l. ap (λ r. get_or r d 0) q ∙ get_or-take n codes d 0 l ∙ sym (pick_f _ _ _ (All-at _ sets 0 (nowhere sets 0 j f).1 (nobody j) d))))
 
 -- ---- the table's own cells
 
@@ -186,7 +182,7 @@ module _ (t : Table) (o : Obeys t) (sets : List ℕ) (i : ℕ) (e : sets ≡ map
 module _ (table : List ℕ) (a : IsAccepted table) (t : Outline) (q : t ≡ outline_of table)
     (i : ℕ) (sets : List ℕ) (e : sets ≡ map (next_hops (says table) i) (below 64)) where
   own_n : t.routers ≡ (says table).routers
-  own_n = own_routers table t q
+  own_n = ap (λ (o : Outline). o.routers) q
 
   pub rows_of_table : i < t.routers → (codes : List ℕ) → codes ≡ start_codes sets i → (lent out : List ℕ)
       → out ≡ rows (cell_from sets codes i) t.routers t.routers ++ drop (cells t.routers) lent

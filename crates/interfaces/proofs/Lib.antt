@@ -1,4 +1,6 @@
-pub mod Rows
+-- What is proved of interface tables.
+-- Assumes nothing.
+pub mod RowByRow
 pub mod Cells
 pub mod Answers
 pub mod Settled

@@ -1,31 +1,26 @@
 -- A router's interface table by its next-hop sets, and what the question about it answers, in document 01's numbers.
-use Rattle.std.specs.Prelude.{◌≡◌, ℕ, zero, suc, get_or}
+use Rattle.std.specs.Prelude.{◌≡◌, ℕ, get_or, Result}
 use mathlib.Core.List.{List, [], ◌∷◌, map, flatten}
 use Rattle.std.specs.Int.Bits.{bit_or}
+use Rattle.std.specs.List.{fold}
 use Rattle.rules.specs.Words.{◌=?◌, pick, ◌when◌, first◌otherwise◌, below}
 use Rattle.rules.specs.NextHops.{has}
 use Rattle.rules.specs.Entries.{starts_here, entry_by, code, discard}
-use Rattle.rules.specs.Answers.{Answer, answered, refused_with, IsNumber}
+use Rattle.rules.specs.Answers.{Answer}
 use Rattle.rules.specs.InterfacesQuestion.{InterfacesInputs, interfaces_answer, interfaces_after}
 use Rattle.entries.specs.Entries.{pipo}
-use Rattle.interfaces.specs.declared.Writing.{Writing}
-use Rattle.interfaces.specs.declared.Writing.TheVariants.{Written, Refused}
+use Rattle.refusals.specs.Refusals.{answer_told}
+use Rattle.refusals.specs.declared.Refusal.{Refusal}
 
 -- ---- the question
 
 -- the numbers of each case
-unfoldable pub writing_numbers : Writing → Answer ℕ
-writing_numbers (Written bytes) = answered bytes
-writing_numbers (Refused number place) = refused_with 0 number 0 place
-
--- a refusal has a number
-abbrev pub Numbered : Writing → Type 0
-Numbered (Written bytes) = Unit {0}
-Numbered (Refused number place) = IsNumber number
+abbrev pub writing_numbers : Result ℕ Refusal → Answer ℕ
+writing_numbers = answer_told 0 (λ bytes. bytes)
 
 -- r answers the question about a router's interface table, and the output holds afterwards what it is to hold
-abbrev pub Writes : InterfacesInputs → Writing → List ℕ → Type 0
-Writes q r out = (writing_numbers r ≡ interfaces_answer q) × Numbered r × (out ≡ interfaces_after q)
+abbrev pub Writes : InterfacesInputs → Result ℕ Refusal → List ℕ → Type 0
+Writes q r out = (writing_numbers r ≡ interfaces_answer q) × (out ≡ interfaces_after q)
 
 -- ---- rows by the router's next-hop sets for each destination
 
@@ -37,10 +32,9 @@ code_by sets i j d = code (entry_by (pipo (get_or sets d 0)) i j d)
 unfoldable pub start_codes : List ℕ → ℕ → List ℕ
 start_codes sets i = map (code_by sets i starts_here) (below 64)
 
--- the routers that are in any of the first n sets
-unfoldable pub members_of : List ℕ → ℕ → ℕ
-members_of sets zero = 0
-members_of sets (suc n) = bit_or (members_of sets n) (get_or sets n 0)
+-- the routers that are in any of the sets
+abbrev pub members_of : List ℕ → ℕ
+members_of sets = fold bit_or 0 sets
 
 -- the code for a previous hop: discard where it is a member, else that of row 255
 unfoldable pub code_from : List ℕ → List ℕ → ℕ → ℕ → ℕ

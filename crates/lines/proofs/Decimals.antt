@@ -1,14 +1,13 @@
--- Decimal digits on a page, and how many of them numbers of each kind have.
+-- How many decimal digits numbers of each kind have.
 -- Assumes nothing.
-use mathlib.Core.Path.{◌≡◌, sym, ◌∙◌, ap}
-use mathlib.Core.List.{List, [], ◌∷◌}
+use mathlib.Core.Path.{◌≡◌, ◌∙◌, ap}
+use mathlib.Core.List.{[], ◌∷◌, ◌++◌}
 use Prim.Native.Nat.{ℕ, ◌+◌, ◌/◌, ◌%◌, ◌^◌, ◌≤◌, ◌<◌}
+use native.Mathlib.Decide.{dec_lt}
 use native.Mathlib.Omega.{arith}
 use lib.ListN.{length, length-append}
 use Rattle.rules.specs.Listing.{decimal}
 use Rattle.rules.proofs.Decimals.{decimal_one, decimal_more, few_digits}
-use Rattle.lines.specs.Lines.{Puts}
-use Rattle.lines.proofs.Pages.{put_more, put_as}
 
 -- a router's number, a byte, and numbers of 32 and 64 bits
 pub router_digits : (x : ℕ) → x < 64 → length (decimal x) ≤ 2
@@ -23,14 +22,15 @@ cost_digits x h = few_digits 20 9 x (omega arith)
 pub place_digits : (x : ℕ) → x < 2 ^ 64 → length (decimal x) ≤ 20
 place_digits x h = few_digits 20 19 x (omega arith)
 
--- ---- digits put on a page
+pub two_digits : (x : ℕ) → 10 ≤ x → x < 100 → decimal x ≡ (48 + x / 10) ∷ (48 + x % 10) ∷ []
+two_digits x l h = decimal_more x (omega arith) l ∙ ap (λ ds. ds ++ ((48 + x % 10) ∷ [])) (decimal_one (x / 10) (omega arith))
 
-pub first_digit : {l l' : List ℕ} {i r : ℕ} (x : ℕ) → x < 10 → Puts l i ((48 + x) ∷ []) r l' → Puts l i (decimal x) r l'
-first_digit x h p = put_as p (sym (decimal_one x h))
+pub one_digit_more : (x : ℕ) → x < 2 ^ 64 → 10 ≤ x → length (decimal x) ≡ length (decimal (x / 10)) + 1
+one_digit_more x b h = ap length (decimal_more x b h) ∙ length-append (decimal (x / 10)) ((48 + x % 10) ∷ [])
 
-module _ (x : ℕ) (b : x < 2 ^ 64) (h : 10 ≤ x) where
-  pub one_digit_more : length (decimal x) ≡ length (decimal (x / 10)) + 1
-  one_digit_more = ap length (decimal_more x b h) ∙ length-append (decimal (x / 10)) ((48 + x % 10) ∷ [])
-
-  pub last_digit : {l l' l'' : List ℕ} {i r s : ℕ} → Puts l i (decimal (x / 10)) r l' → Puts l' r ((48 + x % 10) ∷ []) s l'' → Puts l i (decimal x) s l''
-  last_digit p q = put_as (put_more p q) (sym (decimal_more x b h))
+pub some_digit : (x : ℕ) → x < 2 ^ 64 → 0 < length (decimal x)
+some_digit x b = go (dec_lt x 10)
+  where
+    go : Dec (x < 10) → 0 < length (decimal x)
+    go (yes l) = omega (arith, ap length (decimal_one x l))
+    go (no l) = omega (arith, one_digit_more x b (omega arith))

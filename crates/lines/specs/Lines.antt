@@ -1,28 +1,37 @@
 -- Lines on a page: what is put where, and a router's lines by what a search from it found.
-use Rattle.std.specs.Prelude.{◌≡◌, not, ℕ, ◌+◌, min, length, get_or, drop}
-use mathlib.Core.List.{List, [], ◌++◌, map, flatten}
-use Rattle.std.proofs.lemmas.List.Edits.{sets}
-use Rattle.rules.specs.Words.{◌=?◌, pick, those, below}
+use Rattle.std.specs.Prelude.{◌≡◌, not, ℕ, ◌+◌, min, length, get_or, take, drop}
+use mathlib.Core.List.{List, ◌++◌, map, flatten}
+use Rattle.std.specs.Borrow.{MutBor}
+use Rattle.rules.specs.Words.{◌=?◌, those, below}
 use Rattle.rules.specs.Costs.{no_cost}
 use Rattle.rules.specs.Listing.{line_of, header, refusal_line}
 use Rattle.webs.specs.Webs.{web_weight}
 use Rattle.webs.specs.declared.Web.{Web}
 use Rattle.search.specs.declared.Found.{Found}
 use Rattle.search.specs.Search.{found_from}
+use Rattle.lines.specs.declared.Page.{Page}
 
--- the bytes are put at a place of the page, and the answer is the place behind them
-pub record Puts (page : List ℕ) (at : ℕ) (bytes : List ℕ) (r : ℕ) (page' : List ℕ) : Type 0 where
-  pub behind : r ≡ at + length bytes
-  pub stored : page' ≡ sets page at bytes
+-- what is written on a page: the bytes in front of its end
+abbrev pub written : Page → List ℕ
+written page = take page.end page.bytes.now
+
+-- nothing is written on the page that was lent
+pub record Begins (bytes : MutBor (List ℕ)) (page : Page) : Type 0 where
+  pub lent : page.bytes.ghost_name ≡ bytes.ghost_name
+  pub same : page.bytes.now ≡ bytes.now
+  pub nothing : page.end ≡ 0
+
+-- the bytes are put behind what is written on the page, which stays where it is, and every byte behind them is as it was
+pub record Puts (page : Page) (bytes : List ℕ) (page' : Page) : Type 0 where
+  pub lent : page'.bytes.ghost_name ≡ page.bytes.ghost_name
+  pub behind : page'.end ≡ page.end + length bytes
+  pub more : written page' ≡ written page ++ bytes
+  pub rest : drop page'.end page'.bytes.now ≡ drop page'.end page.bytes.now
 
 -- the bytes stand at the start of the page, the answer is how many there are, and every byte behind them is as it was
 pub record Writes (page bytes : List ℕ) (r : ℕ) (page' : List ℕ) : Type 0 where
   pub counted : r ≡ length bytes
   pub written : page' ≡ bytes ++ drop (length bytes) page
-
--- the line of router i to d, or nothing where d is i
-unfoldable pub line_to_other : ℕ → ℕ → ℕ → ℕ → List ℕ
-line_to_other i d c set = pick (d =? i) [] (line_of i d c set)
 
 -- router i's lines to the others of n routers, of which the first 64 count, by the costs and sets that were found
 unfoldable pub lines_found : Found → ℕ → ℕ → List ℕ

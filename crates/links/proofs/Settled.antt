@@ -4,6 +4,7 @@ use mathlib.Core.Path.{◌≡◌, refl, sym, ◌∙◌, ap}
 use mathlib.Core.List.{List}
 use Prim.Native.Nat.{ℕ, ◌+◌, ◌*◌}
 use denote.Ref.{Bor}
+use Rattle.std.specs.Prelude.{Option, Some, None}
 use Rattle.rules.specs.Words.{◌=?◌, pick}
 use Rattle.rules.specs.LinkQuestion.{NextLink}
 use Rattle.rules.specs.Promises.{Settles, SettlesBoth}
@@ -11,21 +12,21 @@ use Rattle.rules.proofs.Uniqueness.{numbers_settle}
 use Rattle.links.specs.Links.{behind, next_numbers, place_in, Tells, TellsByNumber}
 use Rattle.links.specs.Runs.{Made, Moved}
 use Rattle.links.specs.declared.LinkReader.{LinkReader}
-use Rattle.links.specs.declared.NextLink.{NextLink as NextLinkHere}
-use Rattle.links.specs.declared.NextLink.TheVariants.{One, NoMore}
+use Rattle.links.specs.declared.Link.{Link}
 
 module _ (bytes : List ℕ) (place : ℕ) where
   -- the place behind is what it should be
-  abbrev Own : NextLinkHere → Type 0
+  abbrev Own : Option Link → Type 0
   Own x = place_in place x ≡ behind bytes place
 
-  next_from : NextLink → NextLinkHere
-  next_from n = pick (n.more =? 0) NoMore (One n.link.a n.link.b n.link.weight (behind bytes place))
+  next_from : NextLink → Option Link
+  next_from n =
+      pick (n.more =? 0) None (Some (record { a = n.link.a; b = n.link.b; weight = n.link.weight; behind = behind bytes place }))
 
-  next_again : (x : NextLinkHere) → Own x → next_from (next_numbers x) ≡ x
+  next_again : (x : Option Link) → Own x → next_from (next_numbers x) ≡ x
   unfolding next_from next_numbers place_in
-  next_again (One a b weight next) own = ap (One a b weight) (sym own)
-  next_again NoMore own = refl
+  next_again (Some l) own = ap (λ (n : ℕ). Some (record { a = l.a; b = l.b; weight = l.weight; behind = n })) (sym own)
+  next_again None own = refl
 
   pub link_at_settled : Settles (Tells bytes place)
   link_at_settled = numbers_settle _ _ next_numbers Own next_from next_again _

@@ -1,13 +1,12 @@
 -- The link at a place of a table, and where a link reader starts.
-use Rattle.std.specs.Prelude.{◌≡◌, Bool, ◌&&◌, List, ℕ, ◌+◌, ◌*◌, length, drop}
+use Rattle.std.specs.Prelude.{◌≡◌, Bool, ◌&&◌, List, ℕ, ◌+◌, ◌*◌, length, drop, Option, Some, None}
 use Rattle.rules.specs.Words.{◌=?◌, ◌≤?◌, pick}
 use Rattle.rules.specs.Layout.{tag_link}
 use Rattle.rules.specs.Table.{byte, two_bytes, link_of, read, number_of}
 use Rattle.rules.specs.Demand1.{IsAccepted}
 use Rattle.rules.specs.LinkQuestion.{NextLink, no_more, link_answer}
 use Rattle.tables.specs.Readings.{links_start}
-use Rattle.links.specs.declared.NextLink.{NextLink as NextLinkHere}
-use Rattle.links.specs.declared.NextLink.TheVariants.{One, NoMore}
+use Rattle.links.specs.declared.Link.{Link}
 
 -- a link's record stands whole at a place: all its seven bytes, its tag, its length
 unfoldable pub link_there : List ℕ → ℕ → Bool
@@ -26,21 +25,21 @@ unfoldable pub reader_start : List ℕ → ℕ
 reader_start bytes = pick (number_of (read bytes) =? 0) (links_start bytes) (length bytes)
 
 -- the numbers of each case
-unfoldable pub next_numbers : NextLinkHere → NextLink
-next_numbers (One a b weight next) = record { more = 1; link = record { a = a; b = b; weight = weight } }
-next_numbers NoMore = no_more
+unfoldable pub next_numbers : Option Link → NextLink
+next_numbers (Some l) = record { more = 1; link = record { a = l.a; b = l.b; weight = l.weight } }
+next_numbers None = no_more
 
 -- the place behind the link that is told; where none is told, the same place
-unfoldable pub place_in : ℕ → NextLinkHere → ℕ
-place_in place (One a b weight next) = next
-place_in place NoMore = place
+unfoldable pub place_in : ℕ → Option Link → ℕ
+place_in place (Some l) = l.behind
+place_in place None = place
 
 -- what is told at a place: the link whose record stands there, and the place behind it
-abbrev pub Tells : List ℕ → ℕ → NextLinkHere → Type 0
+abbrev pub Tells : List ℕ → ℕ → Option Link → Type 0
 Tells bytes place r = (next_numbers r ≡ link_at bytes place) × (place_in place r ≡ behind bytes place)
 
 -- the same of link i of those that start at a place
-abbrev pub TellsByNumber : List ℕ → ℕ → ℕ → NextLinkHere → Type 0
+abbrev pub TellsByNumber : List ℕ → ℕ → ℕ → Option Link → Type 0
 TellsByNumber bytes start i r = Tells bytes (start + 7 * i) r
 
 -- From where an accepted table's links start, link i stands 7 × i bytes further on; behind the last there is none. (proofs/Stand)

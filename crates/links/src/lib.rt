@@ -1,92 +1,58 @@
 // Links of a table, one at a time.
 #![tactic(auto)]
 
-ghost use Rattle.std.specs.Prelude.{◌≡◌};
-ghost use Rattle.links.specs.Links.{Tells, TellsByNumber, place_in, reader_start};
+ghost use Rattle.std.specs.Prelude.{◌≡◌, ◌-◌, length};
+ghost use Rattle.std.specs.Iterator.{at_most};
+ghost use Rattle.links.specs.Links.{Tells, TellsByNumber, reader_start};
 ghost use Rattle.links.specs.Runs.{Made, Moved};
 
 use records::{LINK, joined};
-use tables::{Reading, read};
+use tables::accept;
 
-// A link and the place behind its record, or no more.
-#[derive(Clone, Copy)]
-pub enum NextLink {
-    One {
-        a: u8,
-        b: u8,
-        weight: u16,
-        behind: usize,
-    },
-    NoMore,
+// A link and the place behind its record.
+#[derive(Clone, Copy, Debug, PartialEq, Eq)]
+pub struct Link {
+    pub a: u8,
+    pub b: u8,
+    pub weight: u16,
+    pub behind: usize,
 }
 
-// The link whose record stands at a place, and the place behind it.
-pub fn link_at(table: &[u8], place: usize) -> NextLink
+// The link whose record stands at a place, if one does.
+pub fn link_at(table: &[u8], place: usize) -> Option<Link>
     ensures { Tells table.now place result }
 {
-    let len = table.len();
-    if len < 7 {
-        return NextLink::NoMore;
-    }
-    if len - 7 < place {
-        return NextLink::NoMore;
-    }
-    if table[place] != LINK {
-        return NextLink::NoMore;
-    }
-    if joined(table[place + 1], table[place + 2]) != 4 {
-        return NextLink::NoMore;
-    }
-    NextLink::One {
-        a: table[place + 3],
-        b: table[place + 4],
-        weight: joined(table[place + 5], table[place + 6]),
-        behind: place + 7,
+    match table.get(place..)? {
+        [LINK, 0, 4, a, b, high, low, ..] => Some(Link {
+            a: *a,
+            b: *b,
+            weight: joined(*high, *low),
+            behind: place + 7,
+        }),
+        _ => None,
     }
 }
 
 // Link i of those that start at a place: their records are 7 bytes each.
-pub fn link_by_number(table: &[u8], start: usize, i: u16) -> NextLink
+#[tactic(auto, unfolding(crate::specs::Links::link_there, crate::specs::Links::link_at, crate::specs::Links::behind, crate::specs::Links::next_numbers, crate::specs::Links::place_in))]
+pub fn link_by_number(table: &[u8], start: usize, i: u16) -> Option<Link>
     ensures { TellsByNumber table.now start i result }
 {
-    let len = table.len();
-    if len < start {
-        return NextLink::NoMore;
-    }
-    let distance = 7 * (i as usize);
-    if len - start < distance {
-        return NextLink::NoMore;
-    }
-    link_at(table, start + distance)
-}
-
-// The place behind the link that is told; where none is told, the same place.
-fn place_behind(next: NextLink, place: usize) -> usize
-    ensures { result ≡ place_in place next }
-{
-    match next {
-        NextLink::One {
-            a,
-            b,
-            weight,
-            behind,
-        } => behind,
-        NextLink::NoMore => place,
-    }
+    let place = start.checked_add(7 * (i as usize))?;
+    link_at(table, place)
 }
 
 // Where a reader starts: at the first link; of a refused table at its end, where no link stands.
 fn first_place(table: &[u8]) -> usize
     ensures { result ≡ reader_start table.now }
 {
-    let reading = read(table);
-    match reading {
-        Reading::Accepted(t) => t.start,
-        Reading::Refused { number, place } => table.len(),
+    match accept(table) {
+        Ok(t) => t.outline.start,
+        Err(_) => table.len(),
     }
 }
 
-// The link reader: the table and the place of the next link, kept together.
+// The link reader: the table and the place of the next link, kept together, as document 01 names the form.
 #[derive(Drop)]
 pub struct LinkReader<'a> {
     pub table: &'a [u8],
@@ -102,12 +68,26 @@ pub fn read_links<'a>(table: &'a [u8]) -> LinkReader<'a>
 }
 
 // The link that comes next, or no more; the reader moves behind it.
-pub fn next_link<'s, 'a>(reader: &'s mut LinkReader<'a>) -> NextLink
+#[tactic(auto, unfolding(crate::specs::Links::place_in))]
+pub fn next_link<'s, 'a>(reader: &'s mut LinkReader<'a>) -> Option<Link>
     ensures { Moved reader.old result reader.new }
 {
-    let table = reader.table;
-    let place = reader.place;
-    let next = link_at(table, place);
-    reader.place = place_behind(next, place);
+    let next = link_at(reader.table, reader.place);
+    if let Some(link) = next {
+        reader.place = link.behind;
+    }
     next
+}
+
+// The reader as an iterator over the links that are left; no more come than bytes are left.
+impl<'a> Iterator for LinkReader<'a> {
+    type Item = Link;
+
+    ghost next_gives = { Moved };
+
+    ghost remaining = { λ s. at_most (length s.table.now - s.place) };
+
+    fn next(&mut self) -> Option<Link> {
+        next_link(self)
+    }
 }

@@ -7,14 +7,16 @@ use Prim.Native.Nat.{ℕ, ◌+◌, ◌-◌, ◌≤◌, ◌<◌}
 use native.Mathlib.Omega.{arith}
 use lib.ListN.{length}
 use borrow.Author.Tests.{eq-eqb, ne_eqb}
+use Rattle.std.specs.Prelude.{Option, Some, None}
 use Rattle.rules.specs.Layout.{Name, tag_name}
 use Rattle.rules.specs.Table.{byte, says}
 use Rattle.rules.specs.Demand1.{IsAccepted}
 use Rattle.rules.specs.Names.{name_in}
 use Rattle.rules.specs.NameQuestions.{name_for}
 use Rattle.rules.proofs.Basics.{pick_t, pick_f}
-use Rattle.names.specs.Namings.{naming_of}
-use Rattle.names.specs.declared.Naming.TheVariants.{Named, Unnamed}
+use Rattle.refusals.specs.declared.Which.{Which}
+use Rattle.names.specs.Namings.{part_of}
+use Rattle.names.specs.declared.Part.{Part}
 use Rattle.names.proofs.NamesListed.{Listed, done, more, names_listed}
 
 -- the names from this place on, among which the router's stands if it has one
@@ -22,6 +24,10 @@ pub record Seeks (bytes : List ℕ) (router place : ℕ) : Type 0 where
   pub names : List Name
   pub listed : Listed bytes place names
   pub same : name_in names router ≡ name_for bytes router
+
+-- the part of so many bytes at a place
+abbrev here : Which → ℕ → ℕ → Option Part
+here which place size = Some (record { table = which; place = place; size = size })
 
 pub seeks_first : (bytes : List ℕ) (router : ℕ) → IsAccepted bytes → Seeks bytes router 4
 seeks_first bytes router e = record { names = (says bytes).names; listed = names_listed bytes e; same = refl }
@@ -35,12 +41,12 @@ module _ {bytes : List ℕ} {router place : ℕ} (s : Seeks bytes router place) 
       go (more t r p z h l) = omega arith
 
   -- where no name stands there is none
-  pub seeks_none : (which : ℕ) → byte bytes place ≢ tag_name → Unnamed ≡ naming_of which (name_for bytes router)
-  unfolding naming_of name_in
+  pub seeks_none : (which : Which) → byte bytes place ≢ tag_name → None ≡ part_of which (name_for bytes router)
+  unfolding part_of name_in
   seeks_none which n = go s.listed s.same
     where
-      go : {ms : List Name} → Listed bytes place ms → name_in ms router ≡ name_for bytes router → Unnamed ≡ naming_of which (name_for bytes router)
-      go (done h t) e = ap (naming_of which) e
+      go : {ms : List Name} → Listed bytes place ms → name_in ms router ≡ name_for bytes router → None ≡ part_of which (name_for bytes router)
+      go (done h t) e = ap (part_of which) e
       go (more t r p z h l) e = absurd (n t)
 
   module _ (t : byte bytes place ≡ tag_name) where
@@ -54,16 +60,16 @@ module _ {bytes : List ℕ} {router place : ℕ} (s : Seeks bytes router place) 
 
     module _ (size : ℕ) (q : size ≡ byte bytes (place + 2) - 1) where
       -- it is the router's
-      pub seeks_found : (which : ℕ) → byte bytes (place + 3) ≡ router → Named which (place + 4) size ≡ naming_of which (name_for bytes router)
-      unfolding naming_of name_in
+      pub seeks_found : (which : Which) → byte bytes (place + 3) ≡ router → here which (place + 4) size ≡ part_of which (name_for bytes router)
+      unfolding part_of name_in
       seeks_found which f = go s.listed s.same
         where
           go : {ms : List Name} → Listed bytes place ms → name_in ms router ≡ name_for bytes router
-              → Named which (place + 4) size ≡ naming_of which (name_for bytes router)
+              → here which (place + 4) size ≡ part_of which (name_for bytes router)
           go (done h n) e = absurd (n t)
           go (more {m = m} _ r p z h l) e =
               let sized : size ≡ length m.bytes = omega arith in
-              (λ i. Named which (sym p i) (sized i)) ∙ ap (naming_of which) (sym (pick_t _ _ _ (eq-eqb m.router router (sym r ∙ f))) ∙ e)
+              (λ i. here which (sym p i) (sized i)) ∙ ap (part_of which) (sym (pick_t _ _ _ (eq-eqb m.router router (sym r ∙ f))) ∙ e)
 
       -- it is another's
       pub seeks_on : byte bytes (place + 3) ≢ router → Seeks bytes router (place + (4 + size))

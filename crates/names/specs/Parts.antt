@@ -25,13 +25,3 @@ GivesName table router r = IsPart table (name_part (record { table = table.now; 
 
 abbrev pub GivesNameOfTwo : Bor (List ℕ) → Bor (List ℕ) → ℕ → Bor (List ℕ) → Type 0
 GivesNameOfTwo old new router r = IsPartOfTwo old new (two_names_part (record { old = old.now; new = new.now; router = router })) r
-
--- two references to the very same bytes: nothing tells them apart
-pub record SamePart (r s : Bor (List ℕ)) : Type 0 where
-  pub same_bytes : r.now ≡ s.now
-  pub same_block : r.ref_ptr.0 ≡ s.ref_ptr.0
-  pub same_offset : r.ref_ptr.1 ≡ s.ref_ptr.1
-
--- P allows one part only
-abbrev pub SettlesPart : (Bor (List ℕ) → Type 0) → Type 0
-SettlesPart P = (r s : Bor (List ℕ)) → P r → P s → SamePart r s

@@ -2,120 +2,76 @@
 #![tactic(auto)]
 
 ghost use Rattle.std.specs.Prelude.{◌≡◌, ◌+◌, ◌≤◌, length};
-ghost use Rattle.rules.specs.Demand1.{IsAccepted};
 ghost use Rattle.rules.specs.NameQuestions.{name_for};
-ghost use Rattle.names.specs.Namings.{NamesIn, NamesInTwo, naming_of, naming_of_two};
+ghost use Rattle.names.specs.Namings.{NamesIn, NamesInTwo, part_of, part_of_two};
 ghost use Rattle.names.specs.Parts.{PartAt, GivesName, GivesNameOfTwo};
 
 use records::NAME;
-use tables::{Reading, read};
+use refusals::{Reason, Refusal, Which};
+use tables::{Table, accept};
 
-// The companion's answer: the part that the name is, or unnamed, or the refusal. Table 0 is the old or only one, 1 the new.
-#[derive(Clone, Copy)]
-pub enum Naming {
-    Named {
-        table: u8,
-        place: usize,
-        size: usize,
-    },
-    Unnamed,
-    Refused {
-        number: u8,
-        table: u8,
-        place: usize,
-    },
+// The part that a name is: which table, the place of its first byte there, and its length.
+#[derive(Clone, Copy, Debug, PartialEq, Eq)]
+pub struct Part {
+    pub table: Which,
+    pub place: usize,
+    pub size: usize,
 }
 
-// A router number that is not below N.
-const NO_ROUTER: Naming = Naming::Refused {
-    number: 9,
-    table: 0,
-    place: 0,
-};
-
 // The name in an accepted table. Its name records follow each other behind the routers record; their length is at most 17, so its low byte tells it.
-fn find(table: &[u8], which: u8, router: u8) -> Naming
-    requires { IsAccepted table.now }
-    ensures { result ≡ naming_of which (name_for table.now router) }
+// The place is part of the answer, so it is counted.
+#[tactic(auto, using(crate::proofs::Seeking::seeks_first, crate::proofs::Seeking::seeks_on))]
+fn find(table: Table, which: Which, router: u8) -> Option<Part>
+    ensures { result ≡ part_of which (name_for table.entry.bytes.now router) }
 {
+    let bytes = table.bytes;
     let mut place = 4;
-    while table[place] == NAME {
-        let size = (table[place + 2] as usize) - 1;
-        if table[place + 3] == router {
-            return Naming::Named {
+    while bytes[place] == NAME {
+        let size = (bytes[place + 2] as usize) - 1;
+        if bytes[place + 3] == router {
+            return Some(Part {
                 table: which,
                 place: place + 4,
                 size,
-            };
+            });
         }
         place += 4 + size;
     }
-    Naming::Unnamed
+    None
 }
 
 // The name in the new of two accepted tables, or else the one in the old.
-fn find_in_two(old: &[u8], new: &[u8], router: u8) -> Naming
-    requires { IsAccepted old.now × IsAccepted new.now }
-    ensures { result ≡ naming_of_two (name_for old.now router) (name_for new.now router) }
+#[tactic(auto, unfolding(crate::specs::Namings::part_of, crate::specs::Namings::part_of_two))]
+fn find_in_two(old: Table, new: Table, router: u8) -> Option<Part>
+    ensures { result ≡ part_of_two (name_for old.entry.bytes.now router) (name_for new.entry.bytes.now router) }
 {
-    let found = find(new, 1, router);
-    let Naming::Unnamed = found else {
-        return found;
-    };
-    find(old, 0, router)
+    match find(new, Which::New, router) {
+        Some(part) => Some(part),
+        None => find(old, Which::Old, router),
+    }
 }
 
-// The companion question for one table.
-pub fn naming_in(table: &[u8], router: u64) -> Naming
+// The companion question for one table: the part that the name is, if there is one.
+pub fn naming_in(table: &[u8], router: u64) -> Result<Option<Part>, Refusal>
     ensures { NamesIn (record { table = table.now; router = router }) result }
 {
-    let reading = read(table);
-    match reading {
-        Reading::Refused { number, place } => Naming::Refused {
-            number,
-            table: 0,
-            place,
-        },
-        Reading::Accepted(outline) => {
-            if (outline.routers as u64) <= router {
-                return NO_ROUTER;
-            }
-            find(table, 0, router as u8)
-        }
+    let t = accept(table)?;
+    if (t.outline.routers as u64) <= router {
+        return Err(Reason::NoSuchRouter.into());
     }
+    Ok(find(t, Which::Old, router as u8))
 }
 
-// The companion question for two tables.
-pub fn naming_in_two(old: &[u8], new: &[u8], router: u64) -> Naming
+// The companion question for two tables: another question, with other refusals.
+pub fn naming_in_two(old: &[u8], new: &[u8], router: u64) -> Result<Option<Part>, Refusal>
     ensures { NamesInTwo (record { old = old.now; new = new.now; router = router }) result }
 {
-    let old_reading = read(old);
-    match old_reading {
-        Reading::Refused { number, place } => Naming::Refused {
-            number,
-            table: 0,
-            place,
-        },
-        Reading::Accepted(old_outline) => {
-            let new_reading = read(new);
-            match new_reading {
-                Reading::Refused { number, place } => Naming::Refused {
-                    number,
-                    table: 1,
-                    place,
-                },
-                Reading::Accepted(new_outline) => {
-                    if (old_outline.routers as u64) <= router {
-                        return NO_ROUTER;
-                    }
-                    if (new_outline.routers as u64) <= router {
-                        return NO_ROUTER;
-                    }
-                    find_in_two(old, new, router as u8)
-                }
-            }
-        }
+    let o = accept(old)?;
+    let n = accept(new).map_err(Refusal::in_new)?;
+    if (o.outline.routers as u64) <= router || (n.outline.routers as u64) <= router {
+        return Err(Reason::NoSuchRouter.into());
     }
+    Ok(find_in_two(o, n, router as u8))
 }
 
 // The very part of a table that begins at a place and has so many bytes.
@@ -126,32 +82,25 @@ fn part_at<'a>(table: &'a [u8], place: usize, size: usize) -> &'a [u8]
     &table[place..place + size]
 }
 
-// The name in one table; the empty part at its end where there is none, or a refusal.
+// The name in one table; the empty part at its end where there is none, or a refusal. One table and two are two questions, as above.
 pub fn name_in<'a>(table: &'a [u8], router: u64) -> &'a [u8]
     ensures { GivesName table.entry router result }
 {
-    let naming = naming_in(table, router);
-    let Naming::Named {
-        table: _,
-        place,
-        size,
-    } = naming
-    else {
+    let Ok(Some(part)) = naming_in(table, router) else {
         return part_at(table, table.len(), 0);
     };
-    part_at(table, place, size)
+    part_at(table, part.place, part.size)
 }
 
 // The name in the new table, or else the one in the old; the empty part at the end of the new one where there is none, or a refusal.
 pub fn name_in_two<'a>(old: &'a [u8], new: &'a [u8], router: u64) -> &'a [u8]
     ensures { GivesNameOfTwo old.entry new.entry router result }
 {
-    let naming = naming_in_two(old, new, router);
-    let Naming::Named { table, place, size } = naming else {
+    let Ok(Some(part)) = naming_in_two(old, new, router) else {
         return part_at(new, new.len(), 0);
     };
-    if table == 0 {
-        return part_at(old, place, size);
+    match part.table {
+        Which::Old => part_at(old, part.place, part.size),
+        Which::New => part_at(new, part.place, part.size),
     }
-    part_at(new, place, size)
 }

@@ -1,73 +1,80 @@
--- What two tables together are answered, case by case; and what the answer tells of them.
+-- What taking two tables together is answered, case by case, and the question about them.
 -- Assumes nothing.
-use mathlib.Core.Path.{◌≡◌, refl, sym, ◌∙◌, ap, subst}
+use mathlib.Core.Path.{◌≡◌, refl, sym, ◌∙◌, ap}
 use mathlib.Core.Logic.{◌≢◌}
-use mathlib.Core.Bool.{false}
-use mathlib.Core.List.{[], ◌∷◌}
+use mathlib.Core.List.{List}
 use Prim.Native.Nat.{ℕ, ◌≤◌, ◌<◌}
 use native.Mathlib.Omega.{arith}
-use Rattle.rules.specs.Table.{read, number_of, place_of, says}
-use Rattle.rules.specs.Pairs.{differing, too_different}
-use Rattle.rules.specs.Demand1.{IsAccepted}
-use Rattle.rules.specs.PairQuestion.{PairInputs, pair_refusals, pair_answer, AcceptedTogether}
-use Rattle.rules.proofs.Basics.{pick_t, pick_f}
-use Rattle.rules.proofs.Answers.{applies, table_bad, table_good, number_refuses, number_answers}
-use Rattle.rules.proofs.PairQuestion.{asks_pair, pair_proved}
-use Rattle.tables.specs.Readings.{outline_of}
-use Rattle.tables.specs.declared.Outline.{Outline}
-use Rattle.pairs.specs.declared.Pairing.{Pairing}
-use Rattle.pairs.specs.declared.Pairing.TheVariants.{Accepted, Refused}
-use Rattle.pairs.specs.Pairings.{pairing_numbers, Pairs}
+use denote.Ref.{Bor}
+use Rattle.std.specs.Prelude.{Ok, Err}
+use Rattle.rules.specs.Table.{says}
+use Rattle.rules.specs.Pairs.{differing}
+use Rattle.rules.specs.Answers.{Refusal as Told, FirstDecides}
+use Rattle.rules.specs.PairQuestion.{PairInputs, no_pairing, pairing, pair_answer, pair_cases, AcceptedTogether}
+use Rattle.rules.proofs.PairQuestion.{pair_proved}
+use Rattle.refusals.specs.declared.Reason.TheVariants.{TooDifferent}
+use Rattle.refusals.specs.declared.Refusal.{Refusal}
+use Rattle.refusals.specs.Refusals.{without_place, in_new, answer_told}
+use Rattle.refusals.proofs.Told.{some_number}
+use Rattle.tables.specs.Accepted.{Accepts}
+use Rattle.tables.specs.declared.accepted.Table.{Table}
+use Rattle.tables.proofs.OnTables.{is_accepted, own_routers}
+use Rattle.pairs.specs.declared.both.Together.{Together}
+use Rattle.pairs.specs.Together.{AcceptsTogether}
+use Rattle.pairs.specs.Pairings.{Pairs}
 
--- ---- the answer
+module _ (old new : Bor (List ℕ)) where
+  abbrev asked : PairInputs
+  asked = record { old = old.now; new = new.now }
 
-module _ (q : PairInputs) where
-  pub old_refused : (number place : ℕ) → (number_of (read q.old) ≡ number) × (place_of (read q.old) ≡ place) × (number ≢ 0)
-      → Pairs q (Refused number 0 place)
-  unfolding pairing_numbers pair_answer
-  old_refused number place (e, p, n) = (sym (table_bad _ _ 0 q.old _ number place e p n), n)
+  -- the first case that does not hold decides
+  decides : FirstDecides (pair_cases asked) no_pairing (pairing (says asked.old) (says asked.new)) (pair_answer asked)
+  decides = (pair_proved asked).exactly.in_order
 
-  module _ (a : IsAccepted q.old) where
-    pub new_refused : (number place : ℕ) → (number_of (read q.new) ≡ number) × (place_of (read q.new) ≡ place) × (number ≢ 0)
-        → Pairs q (Refused number 1 place)
-    unfolding pairing_numbers pair_answer
-    new_refused number place (e, p, n) = (sym (table_good _ _ 0 q.old _ a ∙ table_bad _ _ 1 q.new _ number place e p n), n)
+  -- ---- one of the tables is refused
 
-    module _ (b : IsAccepted q.new) (o n : Outline) (p : o ≡ outline_of q.old) (s : n ≡ outline_of q.new) where
-      -- the tables do not go together
-      refused_8 : ¬ (((says q.old).routers ≡ (says q.new).routers) × (differing (says q.old) (says q.new) ≤ 1)) → Pairs q (Refused 8 0 0)
-      unfolding pairing_numbers pair_answer
-      refused_8 h =
-          let t = applies _ (asks_pair (says q.old) (says q.new)) h in
-          (sym (number_refuses _ _ (q.old ∷ q.new ∷ []) (pair_refusals (says q.old) (says q.new)) (a, (b, tt)) 8 (sym (pick_t _ _ _ t)) (omega arith)), omega arith)
+  pub old_refused : (r : Refusal) → Accepts old (Err r) → AcceptsTogether old new (Err r)
+  old_refused r p = p.1 ∙ sym (ap (λ a. a.refusal) (decides.0 p.0))
 
-      pub other_routers : o.routers ≢ n.routers → Pairs q (Refused 8 0 0)
-      other_routers h = refused_8 (λ k. rw (p, s) at h k.0)
+  pub new_refused : (o : Table) → o.bytes ≡ old → (r : Refusal) → Accepts new (Err r) → AcceptsTogether old new (Err (in_new r))
+  new_refused o e r p =
+      ap (λ (r : Told). record { number = r.number; table = 1; place = r.place }) p.1
+      ∙ sym (ap (λ a. a.refusal) ((decides.1 (is_accepted old o e)).0 p.0))
 
-      module _ (differ : ℕ) (d : differ ≡ differing (says q.old) (says q.new)) where
-        pub other_links : 1 < differ → Pairs q (Refused 8 0 0)
-        other_links h = refused_8 (λ k. omega (arith, d, k.1))
+  -- ---- the question about them
 
-        -- they do
-        pub accepted : o.routers ≡ n.routers → differ ≤ 1 → Pairs q (Accepted differ o n)
-        unfolding pairing_numbers pair_answer
-        accepted e h =
-            let t : too_different (says q.old) (says q.new) ≡ false = (asks_pair (says q.old) (says q.new)).1 (rw (p, s) at e, rw d at h) in
-            (rw (d, s) (sym (number_answers _ _ (q.old ∷ q.new ∷ []) (pair_refusals (says q.old) (says q.new)) (a, (b, tt)) 0 (sym (pick_f _ _ _ t)) refl)), (p, s))
+  pub pair_refused : (r : Refusal) → AcceptsTogether old new (Err r) → Pairs asked (Err r)
+  unfolding answer_told
+  pair_refused r p = (λ i. record { refusal = p i; values = sym zeros i }, tt)
+    where
+      zeros : (pair_answer asked).values ≡ no_pairing
+      zeros = (pair_proved asked).refusals.else_zero (λ z. some_number r.reason (ap (λ (r : Told). r.number) p ∙ z))
 
--- ---- what the answer tells
+-- two tables that go together, of whatever bytes
+module _ (old new : Bor (List ℕ)) (t : Together) (p : t.old.bytes ≡ old) (q : t.new.bytes ≡ new) where
+  pub are_together : AcceptedTogether old.now new.now
+  are_together = rw (← p, ← q) t.fits
 
-module _ (q : PairInputs) (r : Pairing) (p : Pairs q r) where
-  pub pairing_accepted : (differ : ℕ) (o n : Outline) → r ≡ Accepted differ o n
-      → AcceptedTogether q.old q.new × (o ≡ outline_of q.old) × (n ≡ outline_of q.new)
-  unfolding pairing_numbers
-  pairing_accepted differ o n e =
-      let s : Pairs q (Accepted differ o n) = subst (Pairs q) e p in
-      ((pair_proved q).asked.0 (sym (ap (λ a. a.refusal.number) s.0)), s.1.0, s.1.1)
+  pub pair_answered : Pairs (asked old new) (Ok (record { differ = t.differ; old = t.old.outline; new = t.new.outline }))
+  unfolding answer_told
+  pair_answered =
+      rw (← p, ← q) (
+        rw (t.counted, own_routers t.new.bytes t.new refl)
+            (sym ((((decides t.old.bytes t.new.bytes).1 t.fits.old_accepted).1 t.fits.new_accepted).1 (t.fits.same_routers, t.fits.one_link))),
+        (t.old.outlined, t.new.outlined),
+      )
 
-  pub pairing_refused : (number table place : ℕ) → r ≡ Refused number table place
-      → ((pair_answer q).refusal ≡ record { number = number; table = table; place = place }) × (number ≢ 0)
-  unfolding pairing_numbers
-  pairing_refused number table place e =
-      let s : Pairs q (Refused number table place) = subst (Pairs q) e p in
-      (sym (ap (λ a. a.refusal) s.0), s.1)
+-- ---- two accepted tables
+
+module _ (old new : Table) where
+  -- they do not go together
+  refused_8 : ¬ (((says old.bytes.now).routers ≡ (says new.bytes.now).routers) × (differing (says old.bytes.now) (says new.bytes.now) ≤ 1))
+      → AcceptsTogether old.bytes new.bytes (Err (without_place TooDifferent))
+  refused_8 h = sym (ap (λ a. a.refusal) ((((decides old.bytes new.bytes).1 old.accepted).1 new.accepted).0 h))
+
+  pub other_routers : old.outline.routers ≢ new.outline.routers → AcceptsTogether old.bytes new.bytes (Err (without_place TooDifferent))
+  other_routers h = refused_8 (λ k. h (own_routers old.bytes old refl ∙ k.0 ∙ sym (own_routers new.bytes new refl)))
+
+  pub other_links : (differ : ℕ) → differ ≡ differing (says old.bytes.now) (says new.bytes.now) → 1 < differ
+      → AcceptsTogether old.bytes new.bytes (Err (without_place TooDifferent))
+  other_links differ d h = refused_8 (λ k. omega (arith, d, k.1))

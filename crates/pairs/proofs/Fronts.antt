@@ -5,6 +5,7 @@ use mathlib.Core.Logic.{◌≢◌}
 use mathlib.Core.List.{List, [], ◌∷◌}
 use Prim.Native.Nat.{ℕ, ◌+◌, ◌*◌, ◌≤◌, ◌<◌}
 use native.Mathlib.Omega.{arith}
+use Rattle.std.specs.Prelude.{Some, None}
 use Rattle.rules.specs.Layout.{Link, LinkFits, pair_number}
 use Rattle.rules.specs.Table.{says}
 use Rattle.rules.specs.Demand1.{IsAccepted}
@@ -12,27 +13,23 @@ use Rattle.rules.specs.Pairs.{differing}
 use Rattle.rules.proofs.Acceptance.{obeys}
 use Rattle.links.specs.Links.{next_numbers, place_in, Tells}
 use Rattle.tables.specs.Readings.{links_start}
-use Rattle.links.specs.declared.NextLink.{NextLink}
-use Rattle.links.specs.declared.NextLink.TheVariants.{One, NoMore}
+use Rattle.links.specs.declared.Link.{Link as LinkHere}
 use Rattle.links.proofs.Place.{behind_one}
 use Rattle.links.proofs.Stand.{Stand, none, one, links_stand}
 use Rattle.pairs.specs.declared.Front.{Front}
-use Rattle.pairs.specs.Fronts.{no_pair, front_of, front_at, differ_by}
-use Rattle.pairs.proofs.Merge.{Above, Ordered, ordered, below_all, differ_in, differ_in_tables, differ_at_most, differ_in_none, old_only, new_only, in_both}
+use Rattle.pairs.specs.Fronts.{no_pair, front_of, front_at}
+use Rattle.pairs.proofs.Merge.{differ_by, Above, Ordered, ordered, below_all, differ_in, differ_in_tables, differ_at_most, differ_in_none, old_only, new_only, in_both}
 
 -- what the link reader tells at a place, in front
-module _ (bytes : List ℕ) (place : ℕ) (r : NextLink) where
-  front_told : Tells bytes place r → front_of (next_numbers r) (place_in place r) ≡ front_at bytes place
-  front_told t = rw (t.0, t.1)
-
-  pub front_one : (a b weight next pair : ℕ) → r ≡ One a b weight next → pair ≡ a * 256 + b → Tells bytes place r
-      → record { pair = pair; weight = weight; behind = next } ≡ front_at bytes place
+module _ (bytes : List ℕ) (place : ℕ) where
+  pub front_some : (l : LinkHere) (pair : ℕ) → pair ≡ l.a * 256 + l.b → Tells bytes place (Some l)
+      → record { pair = pair; weight = l.weight; behind = l.behind } ≡ front_at bytes place
   unfolding front_of next_numbers place_in
-  front_one a b weight next pair e p t = rw p (rw e at (front_told t))
+  front_some l pair p t = rw (p, ← t.0, ← t.1)
 
-  pub front_none : r ≡ NoMore → Tells bytes place r → record { pair = no_pair; weight = 0; behind = place } ≡ front_at bytes place
+  pub front_none : Tells bytes place None → record { pair = no_pair; weight = 0; behind = place } ≡ front_at bytes place
   unfolding front_of next_numbers place_in
-  front_none e t = rw e at (front_told t)
+  front_none t = rw (← t.0, ← t.1)
 
 -- ---- what is left of one table's links
 

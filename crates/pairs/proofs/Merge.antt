@@ -10,13 +10,17 @@ use native.Mathlib.Omega.{arith}
 use lib.Dec.{eqb}
 use lib.ListN.{length}
 use borrow.Author.Tests.{eq-eqb, ne_eqb}
+use Rattle.std.specs.Int.{from_bool}
 use Rattle.rules.specs.Words.{pick, tally, All, Rising}
 use Rattle.rules.specs.Layout.{Link, Table, LinkFits, pair_number, Obeys}
 use Rattle.rules.specs.Links.{weight_in}
 use Rattle.rules.specs.Pairs.{differing}
 use Rattle.rules.proofs.Basics.{All-map, All-zip, All-unmap, tally_same, tally_at_most}
 use Rattle.rules.proofs.Weights.{other}
-use Rattle.pairs.specs.Fronts.{differ_by}
+
+-- 1 where two weights differ, else 0
+abbrev pub differ_by : ℕ → ℕ → ℕ
+differ_by old new = from_bool (not (eqb old new))
 
 -- ---- links in rising order
 

@@ -6,6 +6,7 @@ use mathlib.Core.Logic.{◌↔◌}
 use Prim.Native.Nat.{◌≤◌}
 use native.Mathlib.Decide.{ℕ_discrete}
 use native.Mathlib.Omega.{arith}
+use Rattle.std.specs.Prelude.{Ok, Err}
 use Rattle.rules.specs.Table.{read, number_of, says}
 use Rattle.rules.specs.Pairs.{differing}
 use Rattle.rules.specs.Demand1.{IsAccepted}
@@ -14,8 +15,8 @@ use Rattle.rules.specs.PairQuestion.{PairInputs, Pairing, no_pairing, pairing, p
 use Rattle.rules.proofs.Acceptance.{obeys}
 use Rattle.rules.proofs.OneChange.{differs_exactly, none_differs}
 use Rattle.rules.proofs.PairQuestion.{pair_proved}
-use Rattle.pairs.specs.declared.Pairing.TheVariants as here
-use Rattle.pairs.specs.Pairings.{pairing_numbers}
+use Rattle.refusals.specs.Refusals.{answer_told}
+use Rattle.refusals.proofs.Told.{some_number}
 use Rattle.pairs.specs.Number8.{GoTogether, FirstRefuses, by_old, by_new, by_8, Number8OfTheCode}
 
 module _ (q : PairInputs) where
@@ -45,8 +46,8 @@ module _ (q : PairInputs) where
           apart h = n (x.asked.1 (a, (b, (h, tt))))
 
 pub number8_of_the_code : Number8OfTheCode
-unfolding pairing_numbers
-number8_of_the_code q (here.Accepted differ old new) (p, own) = (
+unfolding answer_told
+number8_of_the_code q (Ok r) (p, own) = (
   t.old_accepted,
   t.new_accepted,
   (goes_together q t.old_accepted t.new_accepted).0 (t.same_routers, t.one_link),
@@ -59,7 +60,7 @@ number8_of_the_code q (here.Accepted differ old new) (p, own) = (
     t : AcceptedTogether q.old q.new
     t = (pair_proved q).asked.0 a
 
-    d : differ ≡ differing (says q.old) (says q.new)
+    d : r.differ ≡ differing (says q.old) (says q.new)
     d = ap (λ (x : Answer Pairing). x.values.differ) p ∙ ap (λ (x : Pairing). x.differ) ((pair_proved q).exactly.given a)
-number8_of_the_code q (here.Refused number table place) (p, n) =
-    subst (FirstRefuses q) (sym (ap (λ (x : Answer Pairing). x.refusal) p)) (refuses q (λ z. n (ap (λ (x : Answer Pairing). x.refusal.number) p ∙ z)))
+number8_of_the_code q (Err r) (p, own) =
+    subst (FirstRefuses q) (sym (ap (λ (x : Answer Pairing). x.refusal) p)) (refuses q (λ z. some_number r.reason (ap (λ (x : Answer Pairing). x.refusal.number) p ∙ z)))

@@ -17,7 +17,3 @@ front_of next further = record { pair = pick (next.more =? 0) no_pair (pair_numb
 -- what stands in front at a place of a table
 abbrev pub front_at : List ℕ → ℕ → Front
 front_at bytes place = front_of (link_at bytes place) (behind bytes place)
-
--- 1 where two weights differ, else 0
-abbrev pub differ_by : ℕ → ℕ → ℕ
-differ_by old new = pick (old =? new) 0 1

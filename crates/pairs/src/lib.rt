@@ -4,38 +4,27 @@
 ghost use Rattle.std.specs.Prelude.{◌≡◌};
 ghost use Rattle.rules.specs.Table.{says};
 ghost use Rattle.rules.specs.Pairs.{differing};
-ghost use Rattle.rules.specs.Demand1.{IsAccepted};
-ghost use Rattle.tables.specs.Readings.{links_start, outline_of};
-ghost use Rattle.pairs.specs.Fronts.{front_at, differ_by};
+ghost use Rattle.pairs.specs.Fronts.{front_at};
+ghost use Rattle.pairs.specs.Together.{AcceptsTogether};
 ghost use Rattle.pairs.specs.Pairings.{Pairs};
 
-use links::{NextLink, link_at};
-use records::joined;
-use tables::{Outline, Reading, read};
+mod both;
 
-// The answer: how many links differ, 0 or 1, and what each table holds; or a number, which table (0 the old, 1 the new) and a place.
-#[derive(Clone, Copy)]
-pub enum Pairing {
-    Accepted {
-        differ: u8,
-        old: Outline,
-        new: Outline,
-    },
-    Refused {
-        number: u8,
-        table: u8,
-        place: usize,
-    },
+pub use both::Together;
+use links::link_at;
+use records::joined;
+use refusals::{Reason, Refusal};
+use tables::{Outline, Table, accept};
+
+// Two tables that go together: how many links differ, 0 or 1, and what each table holds.
+#[derive(Clone, Copy, Debug, PartialEq, Eq)]
+pub struct Pairing {
+    pub differ: u8,
+    pub old: Outline,
+    pub new: Outline,
 }
 
-// Different N, or more than one link that differs.
-const TOO_DIFFERENT: Pairing = Pairing::Refused {
-    number: 8,
-    table: 0,
-    place: 0,
-};
-
-// A number above every pair, for "no more".
+// A number above every pair, for "no more": so the end of either list needs no case of its own.
 const NO_PAIR: u32 = 65536;
 
 // The link in front of those that are not compared yet: its pair as one number, its weight, and the place behind it.
@@ -47,22 +36,17 @@ struct Front {
 }
 
 // What stands in front at a place of a table.
+#[tactic(auto, using(crate::proofs::Fronts::front_some, crate::proofs::Fronts::front_none))]
 fn front_at(table: &[u8], place: usize) -> Front
     ensures { result ≡ front_at table.now place }
 {
-    let next = link_at(table, place);
-    match next {
-        NextLink::One {
-            a,
-            b,
-            weight,
-            behind,
-        } => Front {
-            pair: joined(a, b) as u32,
-            weight,
-            behind,
+    match link_at(table, place) {
+        Some(link) => Front {
+            pair: joined(link.a, link.b) as u32,
+            weight: link.weight,
+            behind: link.behind,
         },
-        NextLink::NoMore => Front {
+        None => Front {
             pair: NO_PAIR,
             weight: 0,
             behind: place,
@@ -70,85 +54,66 @@ fn front_at(table: &[u8], place: usize) -> Front
     }
 }
 
-// 1 where two weights differ, else 0.
-fn differ_by(old: u16, new: u16) -> u16
-    ensures { result ≡ differ_by old new }
+// How many links differ. The links of both tables rise: of two pairs in front the lower is in one table only. By two tests: a `match` on how the
+// pairs compare takes half as long again.
+fn count_differing(old: Table, new: Table) -> u16
+    ensures { result ≡ differing (says old.entry.bytes.now) (says new.entry.bytes.now) }
 {
-    if old == new {
-        return 0;
-    }
-    1
-}
-
-// How many links differ. The links start at i in the old table and at k in the new, and both rise: of two pairs in front the lower is in one table only.
-fn count_differing(old: &[u8], i: usize, new: &[u8], k: usize) -> u16
-    requires { IsAccepted old.now × IsAccepted new.now
-        × (i ≡ links_start old.now) × (k ≡ links_start new.now) }
-    ensures { result ≡ differing (says old.now) (says new.now) }
-{
-    let mut o = front_at(old, i);
-    let mut n = front_at(new, k);
+    let mut o = front_at(old.bytes, old.outline.start);
+    let mut n = front_at(new.bytes, new.outline.start);
     let mut count = 0;
     loop {
         if o.pair < n.pair {
             count += 1;
-            o = front_at(old, o.behind);
-            continue;
-        }
-        if n.pair < o.pair {
+            o = front_at(old.bytes, o.behind);
+        } else if n.pair < o.pair {
             count += 1;
-            n = front_at(new, n.behind);
-            continue;
-        }
-        if o.pair == NO_PAIR {
+            n = front_at(new.bytes, n.behind);
+        } else if o.pair == NO_PAIR {
             return count;
+        } else {
+            count += u16::from(o.weight != n.weight);
+            o = front_at(old.bytes, o.behind);
+            n = front_at(new.bytes, n.behind);
         }
-        count += differ_by(o.weight, n.weight);
-        o = front_at(old, o.behind);
-        n = front_at(new, n.behind);
     }
 }
 
-// Two tables that are accepted, with what each holds: 8 for different N, or for more than one link that differs.
-fn compare(old: &[u8], o: Outline, new: &[u8], n: Outline) -> Pairing
-    requires { IsAccepted old.now × IsAccepted new.now × (o ≡ outline_of old.now) × (n ≡ outline_of new.now) }
-    ensures { Pairs (record { old = old.now; new = new.now }) result }
+// Two accepted tables: 8 for different N, or for more than one link that differs.
+fn compare<'a>(old: Table<'a>, new: Table<'a>) -> Result<Together<'a>, Refusal>
+    ensures { AcceptsTogether old.entry.bytes new.entry.bytes result }
 {
-    if o.routers != n.routers {
-        return TOO_DIFFERENT;
+    if old.outline.routers != new.outline.routers {
+        return Err(Reason::TooDifferent.into());
     }
-    let differ = count_differing(old, o.start, new, n.start);
+    let differ = count_differing(old, new);
     if 1 < differ {
-        return TOO_DIFFERENT;
+        return Err(Reason::TooDifferent.into());
     }
-    Pairing::Accepted {
+    Ok(Together {
+        old,
+        new,
         differ: differ as u8,
-        old: o,
-        new: n,
-    }
+    })
 }
 
-// Two tables together: each is read, the old one first, and then they are compared.
-pub fn pair(old: &[u8], new: &[u8]) -> Pairing
+// Two whole byte strings as tables that go together: each is accepted, the old one first, and then they are compared.
+pub fn together<'a>(old: &'a [u8], new: &'a [u8]) -> Result<Together<'a>, Refusal>
+    ensures { AcceptsTogether old.entry new.entry result }
+{
+    let o = accept(old)?;
+    let n = accept(new).map_err(Refusal::in_new)?;
+    compare(o, n)
+}
+
+// The question about two tables together: how many links differ, and what each table holds.
+pub fn pair(old: &[u8], new: &[u8]) -> Result<Pairing, Refusal>
     ensures { Pairs (record { old = old.now; new = new.now }) result }
 {
-    let first = read(old);
-    match first {
-        Reading::Accepted(o) => {
-            let second = read(new);
-            match second {
-                Reading::Accepted(n) => compare(old, o, new, n),
-                Reading::Refused { number, place } => Pairing::Refused {
-                    number,
-                    table: 1,
-                    place,
-                },
-            }
-        }
-        Reading::Refused { number, place } => Pairing::Refused {
-            number,
-            table: 0,
-            place,
-        },
-    }
+    let tables = together(old, new)?;
+    Ok(Pairing {
+        differ: tables.differ,
+        old: tables.old.outline,
+        new: tables.new.outline,
+    })
 }

@@ -1,6 +1,6 @@
+-- What is proved of following.
+-- Assumes nothing.
 pub mod Following
-pub mod Guides
-pub mod EndingWords
 pub mod OverTables
 pub mod Answers
 pub mod Settled

@@ -4,21 +4,22 @@ use mathlib.Core.Path.{◌≡◌, refl, sym, ◌∙◌, ap, subst}
 use mathlib.Core.List.{List}
 use Prim.Native.Nat.{ℕ, suc}
 use lib.ListN.{take, drop}
-use Rattle.rules.specs.Paths.{Outcome, delivered, discarded, unrouted, lost, listed}
+use Rattle.std.specs.Prelude.{Ok, Err}
+use Rattle.rules.specs.Paths.{Outcome, delivered, discarded, unrouted, lost, outcome_code, listed}
 use Rattle.rules.specs.Answers.{Answer, Answered, Holds}
 use Rattle.rules.specs.PathQuestion.{PathInputs, Ending, ending, path_of, path_answer, trace_after, PathAsked}
 use Rattle.rules.proofs.PathQuestion.{path_proved}
+use Rattle.refusals.specs.Refusals.{number_of, answer_told}
+use Rattle.refusals.proofs.Told.{some_number}
 use Rattle.paths.specs.declared.Ending.{Ending as EndingHere}
-use Rattle.paths.specs.declared.PathAnswer.TheVariants.{Ended, Refused}
-use Rattle.paths.specs.Following.{outcome_case, outcome_told}
-use Rattle.paths.specs.PathAnswers.{ending_numbers, path_answer_numbers}
+use Rattle.paths.specs.Following.{outcome_told}
+use Rattle.paths.specs.PathAnswers.{ending_numbers}
 use Rattle.paths.specs.Loopless.{path_told, Demand3Told, Demand3OfTheCode}
-use Rattle.paths.proofs.Answers.{case_code}
-use Rattle.paths.proofs.Settled.{outcome_apart}
+use Rattle.paths.proofs.Settled.{outcome_of, outcome_again}
 
--- the outcome of an outcome's case is itself
-told_again : (o : Outcome) → outcome_told (outcome_case o) ≡ o
-unfolding outcome_told outcome_case
+-- the case that has an outcome's code tells that outcome
+told_again : (o : Outcome) → outcome_told (outcome_of (outcome_code o)) ≡ o
+unfolding outcome_told outcome_of
 told_again delivered = refl
 told_again discarded = refl
 told_again unrouted = refl
@@ -46,9 +47,7 @@ module _ (q : PathInputs) where
       where
         same_outcome : outcome_told e.outcome ≡ (path_of q).outcome
         same_outcome =
-            ap outcome_told
-            (outcome_apart e.outcome (outcome_case (path_of q).outcome) (ap (λ (x : Ending). x.outcome) p ∙ sym (case_code (path_of q).outcome)))
-            ∙ told_again (path_of q).outcome
+            ap outcome_told (sym (outcome_again e.outcome) ∙ ap (λ (x : Ending). outcome_of x.outcome) p) ∙ told_again (path_of q).outcome
 
         same_trace : take (suc e.hops) trace ≡ (path_of q).trace
         same_trace = ap (λ n. take (suc n) trace) same_hops ∙ ap (take (suc (path_of q).hops)) t ∙ held.front
@@ -62,8 +61,8 @@ module _ (q : PathInputs) where
         ∙ sym (ap (λ n. drop (suc n) q.trace) same_hops)
 
 pub demand3_of_the_code : Demand3OfTheCode
-unfolding path_answer_numbers
-demand3_of_the_code q (Ended e) trace (p, n, t) = (h, subst (Demand3Told q) (sym (told_path q a e numbers trace t)) (of_path q h), later q a e numbers trace t)
+unfolding answer_told
+demand3_of_the_code q (Ok e) trace (p, t) = (h, subst (Demand3Told q) (sym (told_path q a e numbers trace t)) (of_path q h), later q a e numbers trace t)
   where
     a : Answered (path_answer q)
     a = sym (ap (λ (x : Answer Ending). x.refusal.number) p)
@@ -73,10 +72,10 @@ demand3_of_the_code q (Ended e) trace (p, n, t) = (h, subst (Demand3Told q) (sym
 
     numbers : ending_numbers e ≡ ending (path_of q)
     numbers = ap (λ x. x.values) p ∙ (path_proved q).exactly.given a
-demand3_of_the_code q (Refused number table place) trace (p, n, t) = (
-  λ h. n (e ∙ (path_proved q).asked.1 h),
-  t ∙ (path_proved q).trace_held.stays (λ z. n (e ∙ z)),
+demand3_of_the_code q (Err r) trace (p, t) = (
+  λ h. some_number r.reason (e ∙ (path_proved q).asked.1 h),
+  t ∙ (path_proved q).trace_held.stays (λ z. some_number r.reason (e ∙ z)),
 )
   where
-    e : number ≡ (path_answer q).refusal.number
+    e : number_of r.reason ≡ (path_answer q).refusal.number
     e = ap (λ (x : Answer Ending). x.refusal.number) p

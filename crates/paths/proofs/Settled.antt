@@ -3,41 +3,38 @@
 use mathlib.Core.Path.{◌≡◌, refl, ap}
 use Prim.Native.Nat.{ℕ}
 use Rattle.rules.specs.Words.{◌=?◌, pick}
-use Rattle.rules.specs.Answers.{Answer}
-use Rattle.rules.specs.PathQuestion.{PathInputs, Ending}
-use Rattle.rules.specs.Promises.{Settles, SettlesBoth, HadAgain}
-use Rattle.rules.proofs.Uniqueness.{numbers_tell_apart, outputs_settle, value_settled, refused_again}
+use Rattle.rules.specs.PathQuestion.{PathInputs, no_ending, Ending}
+use Rattle.rules.specs.Promises.{Settles, SettlesBoth}
+use Rattle.rules.proofs.Uniqueness.{value_settled, pairs_settle}
+use Rattle.refusals.proofs.Settled.{numbers_settled}
 use Rattle.paths.specs.declared.Outcome.{Outcome}
 use Rattle.paths.specs.declared.Outcome.TheVariants.{Delivered, Discarded, NoRoute, Lost}
-use Rattle.paths.specs.declared.PathAnswer.{PathAnswer}
-use Rattle.paths.specs.declared.PathAnswer.TheVariants.{Ended, Refused}
-use Rattle.paths.specs.PathAnswers.{code_of, outcome_of, path_answer_numbers, Numbered, AnswersPath, Codes}
+use Rattle.paths.specs.declared.Ending.{Ending as EndingHere}
+use Rattle.paths.specs.Following.{outcome_told}
+use Rattle.paths.specs.PathAnswers.{code_of, ending_numbers, AnswersPath, Codes}
 
--- the outcome that has an outcome's code is itself
+-- the outcome that has this code; every other number counts as lost
+unfoldable pub outcome_of : ℕ → Outcome
+outcome_of n = pick (n =? 128) Delivered (pick (n =? 129) Discarded (pick (n =? 130) NoRoute Lost))
+
 pub outcome_again : (o : Outcome) → outcome_of (code_of o) ≡ o
-unfolding outcome_of code_of
+unfolding outcome_of outcome_told
 outcome_again Delivered = refl
 outcome_again Discarded = refl
 outcome_again NoRoute = refl
 outcome_again Lost = refl
 
-pub outcome_apart : (x y : Outcome) → code_of x ≡ code_of y → x ≡ y
-outcome_apart x y = numbers_tell_apart Outcome ℕ code_of (λ o. Unit {0}) outcome_of (λ o u. outcome_again o) x y tt tt
-
 pub outcome_code_settled : (o : Outcome) → Settles (Codes o)
 outcome_code_settled o = value_settled _
 
--- the answer that has such numbers
-again : Answer Ending → PathAnswer
-again a =
-    pick (a.refusal.number =? 0) (Ended (record { outcome = outcome_of a.values.outcome; router = a.values.router; hops = a.values.hops }))
-    (Refused a.refusal.number a.refusal.table a.refusal.place)
+-- the ending that has such numbers
+ending_from : Ending → EndingHere
+ending_from e = record { outcome = outcome_of e.outcome; router = e.router; hops = e.hops }
 
-had_again : HadAgain path_answer_numbers Numbered again
-unfolding path_answer_numbers again
-had_again (Ended e) own = ap (λ o. Ended (record { outcome = o; router = e.router; hops = e.hops })) (outcome_again e.outcome)
-had_again (Refused number table place) own = refused_again number _ _ own
+ending_again : (e : EndingHere) → ending_from (ending_numbers e) ≡ e
+unfolding ending_from
+ending_again e = ap (λ o. record { outcome = o; router = e.router; hops = e.hops }) (outcome_again e.outcome)
 
 -- the answer, and the trace afterwards
 pub path_settled : (q : PathInputs) → SettlesBoth (AnswersPath q)
-path_settled q = outputs_settle _ _ _ path_answer_numbers Numbered again had_again _ _
+path_settled q = pairs_settle _ _ _ _ (numbers_settled no_ending ending_numbers ending_from ending_again _) (value_settled _)

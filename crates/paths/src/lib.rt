@@ -1,25 +1,26 @@
 // Following one packet from router to router: arriving and leaving take turns, and the path question.
 #![tactic(auto)]
 
-ghost use Rattle.std.specs.Prelude.{◌≡◌, ◌++◌, ◌<◌, ◌≤◌, length, take, drop, set, replicate};
-ghost use Rattle.rules.specs.Words.{◌≤?◌, every};
+ghost use Rattle.std.specs.Prelude.{◌≡◌, ◌<◌, ◌≤◌, set};
 ghost use Rattle.rules.specs.Paths.{entry_at, listed};
 ghost use Rattle.rules.specs.Answers.{number_in};
 ghost use Rattle.rules.specs.PathQuestion.{bad_views, bad_numbers, packet_refusals};
+ghost use Rattle.refusals.specs.Refusals.{found_number};
 ghost use Rattle.entries.specs.Entries.{entry_told};
-ghost use Rattle.paths.specs.Following.{sets_start, laid, guided, guides_to, site_over, path_over, ending_after, written, ending_word, ending_in, Standing, Arrives, Leaves, Lent};
-ghost use Rattle.paths.specs.PathAnswers.{outcome_of, Codes, Tells, Followable, AnswersPath};
+ghost use Rattle.paths.specs.Following.{sets_over, sets_of, near_of, sets_in_view, guides_to, site_over, path_over, Ends, written, Standing, Arrives, Leaves, Lent};
+ghost use Rattle.paths.specs.PathAnswers.{Codes, Tells, asked_of, Followable, AnswersPath};
 
 use entries::{Entry, STARTS_HERE, decide};
-use pairs::{Pairing, pair};
+use pairs::{Together, together};
+use refusals::{Reason, Refusal};
 use routes::sets_by;
 use search::costs_from;
 use sets::has;
-use tables::Outline;
-use webs::web_of;
+use tables::Table;
+use webs::{Web, web_of};
 
 // How a packet ended.
-#[derive(Clone, Copy)]
+#[derive(Clone, Copy, Debug, PartialEq, Eq)]
 pub enum Outcome {
     Delivered,
     Discarded,
@@ -28,21 +29,16 @@ pub enum Outcome {
 }
 
 // How a packet ended, at which router, and how many links it really crossed.
-#[derive(Clone, Copy)]
+#[derive(Clone, Copy, Debug, PartialEq, Eq)]
 pub struct Ending {
     pub outcome: Outcome,
     pub router: u8,
     pub hops: u8,
 }
 
-// The path question's answer: the ending, or a number, which table (0 the old, 1 the new) and a place.
-#[derive(Clone, Copy)]
-pub enum PathAnswer {
-    Ended(Ending),
-    Refused { number: u8, table: u8, place: usize },
-}
-
-// The code of an outcome.
+// The code of an outcome: a match by hand and no discriminants with `as`, since two wrong versions give one outcome the code of another, which two
+// equal discriminants could not say.
+#[tactic(auto, unfolding(crate::specs::Following::outcome_told))]
 pub fn outcome_code(outcome: Outcome) -> u8
     ensures { Codes outcome result }
 {
@@ -54,276 +50,194 @@ pub fn outcome_code(outcome: Outcome) -> u8
     }
 }
 
-// What following reads, for one destination: each router's next-hop set in the old view and, from NEW_SETS on, in the new view, beside each router's
-// row of neighbours over links that carry, from CARRIERS on: the adjacency matrix's pattern, one 64-bit number a row.
-type Guides = [u64; 192];
-
-const OLD_SETS: usize = 0;
-
-const NEW_SETS: usize = 64;
-
-const CARRIERS: usize = 128;
-
-// Guides that lead nowhere.
-fn no_guides() -> Guides
-    ensures { result ≡ replicate 192 0 }
-{
-    [0; 192]
+// What following reads, for one destination: each router's next-hop set in the old view and in the new, and its row of neighbours over links that
+// carry: the adjacency matrix's pattern, one 64-bit number a row.
+#[derive(Drop)]
+struct Guides {
+    old: [u64; 64],
+    new: [u64; 64],
+    carriers: [u64; 64],
 }
 
-// The numbers of 64 routers are laid into the guides, from a place on.
-fn lay(numbers: [u64; 64], at: usize, guides: &mut Guides)
-    requires { (at ≤ 128) × (length guides.old ≡ 192) }
-    ensures { guides.new ≡ laid at numbers guides.old }
-{
-    let mut i = 0;
-    while i < 64 {
-        guides[at + i] = numbers[i];
-        i += 1;
-    }
+// What one packet meets: the guides, the view of each hop, and its destination.
+#[derive(Clone, Copy)]
+struct Site<'a> {
+    guides: &'a Guides,
+    views: &'a [u8; 64],
+    destination: u8,
 }
 
-// What a table says for a destination is laid into the guides: its sets from a place on, and its links as those that carry.
-fn lay_table(table: &[u8], t: Outline, destination: u8, at: usize, guides: &mut Guides)
-    requires { (at ≤ 128) × (length guides.old ≡ 192) }
-    ensures { guides.new ≡ guided at table.now t destination guides.old }
+// The routers that a packet visits, source first, and how many links it has crossed.
+#[derive(Drop)]
+struct Visited {
+    routers: [u8; 64],
+    hops: u8,
+}
+
+// The next-hop sets of all routers over a web, for a destination. Never inlined: where it is, the compiler copies the web once more.
+#[tactic(auto, unfolding(crate::specs::Following::sets_over))]
+#[inline(never)]
+fn sets_to(web: &Web, destination: u8) -> [u64; 64]
+    ensures { result ≡ sets_over web.now destination }
 {
-    let web = web_of(table, t);
     let costs = costs_from(web, destination);
-    let sets = sets_by(web, costs);
-    lay(sets, at, guides);
-    let near = web.near;
-    lay(near, CARRIERS, guides);
+    sets_by(web, &costs)
 }
 
-// The guides of two tables: the links of the new one, which is laid last, carry.
-fn guides_to(old: &[u8], o: Outline, new: &[u8], n: Outline, destination: u8) -> Guides
-    ensures { result ≡ guides_to old.now o new.now n destination }
+// What a table says for a destination is laid into the guides: the next-hop sets of all routers, and the set of those that each is linked to. A
+// function of its own, so that its web, 8,704 bytes, has left the stack before the other table's is made.
+fn lay_table(table: Table, destination: u8, sets: &mut [u64; 64], near: &mut [u64; 64])
+    ensures { (sets.new ≡ sets_of table.entry destination) × (near.new ≡ near_of table.entry) }
 {
-    let mut guides = no_guides();
-    lay_table(old, o, destination, OLD_SETS, &mut guides);
-    lay_table(new, n, destination, NEW_SETS, &mut guides);
+    let web = web_of(table.bytes, table.outline);
+    *sets = sets_to(&web, destination);
+    near.copy_from_slice(&web.near);
+}
+
+// The guides of two tables: the sets of both, and the links of the new one, which is laid last, and so carry.
+fn guides_to(tables: Together, destination: u8) -> Guides
+    ensures { result ≡ guides_to tables.entry destination }
+{
+    let mut guides = Guides {
+        old: [0; 64],
+        new: [0; 64],
+        carriers: [0; 64],
+    };
+    lay_table(
+        tables.old,
+        destination,
+        &mut guides.old,
+        &mut guides.carriers,
+    );
+    lay_table(
+        tables.new,
+        destination,
+        &mut guides.new,
+        &mut guides.carriers,
+    );
     guides
 }
 
-// Where the sets of a view begin, by the byte of the list that says it: 1 the new view, else the old.
-fn sets_start(view: u8) -> usize
-    ensures { result ≡ sets_start view }
-{
-    if view == 1 {
-        return NEW_SETS;
-    }
-    OLD_SETS
-}
-
-// The entry of the router that decides after so many hops: its byte of the list says the view for the whole entry. The destination delivers in
-// either view and reads no byte.
-fn entry_at<'a>(
-    guides: &'a Guides,
-    views: &'a [u8; 64],
-    destination: u8,
-    router: u8,
-    previous: u8,
-    hops: u8,
-) -> Entry
-    requires { (router < 64) × (hops < 64) }
-    ensures { entry_told result
-        ≡ entry_at (site_over destination guides.now) (listed views.now) hops router previous }
-{
-    if router == destination {
-        return Entry::Deliver;
-    }
-    let start = sets_start(views[hops as usize]);
-    let i = router as usize;
-    let set = guides[start + i];
-    let discarded = guides[start + i];
-    decide(set, discarded, router, previous, destination)
-}
-
-// The router is written behind those that were visited before it.
-fn visit(visited: &mut [u8; 64], hops: u8, router: u8)
-    requires { hops < 64 }
-    ensures { visited.new ≡ set visited.old hops router }
-{
-    visited[hops as usize] = router;
-}
-
-// An ending as one number: the router, the hops and the outcome's code, a byte each.
-fn ending_word(outcome: Outcome, router: u8, hops: u8) -> u32
-    ensures { result ≡ ending_word (record { outcome = outcome; router = router; hops = hops }) }
-{
-    let code = outcome_code(outcome);
-    (router as u32) + 256 * (hops as u32) + 65536 * (code as u32)
-}
-
-// The outcome that has this code; every other number counts as lost.
-fn outcome_of(code: u8) -> Outcome
-    ensures { result ≡ outcome_of code }
-{
-    if code == 128 {
-        return Outcome::Delivered;
-    }
-    if code == 129 {
-        return Outcome::Discarded;
-    }
-    if code == 130 {
-        return Outcome::NoRoute;
-    }
-    Outcome::Lost
-}
-
-// The ending in such a number.
-fn ending_in(word: u32) -> Ending
-    ensures { result ≡ ending_in word }
-{
-    let outcome = outcome_of((word / 65536 % 256) as u8);
-    Ending {
-        outcome,
-        router: (word % 256) as u8,
-        hops: (word / 256 % 256) as u8,
+impl Guides {
+    // The sets of a view, by the byte of the list that says it: 1 the new view, else the old.
+    #[tactic(auto, unfolding(crate::specs::Following::sets_in_view))]
+    fn sets(&self, view: u8) -> &[u64; 64]
+        ensures { result.now ≡ sets_in_view self.now view }
+    {
+        if view == 1 {
+            return &self.new;
+        }
+        &self.old
     }
 }
 
-// The packet arrives at a router: its entry is applied. The ending comes back as one number, so that the compiler makes a loop of the two functions.
-#[cycle(arrive_leave)]
-fn arrive<'a>(
-    guides: &'a Guides,
-    views: &'a [u8; 64],
-    destination: u8,
-    router: u8,
-    previous: u8,
-    hops: u8,
-    left: u8,
-    visited: &mut [u8; 64],
-) -> u32
-    requires { Standing guides.now router hops left }
-    ensures { Arrives guides.now views.now destination
-        router previous hops left visited.old result visited.new }
-{
-    visit(visited, hops, router);
-    let entry = entry_at(guides, views, destination, router, previous, hops);
-    match entry {
-        Entry::Deliver => ending_word(Outcome::Delivered, router, hops),
-        Entry::Discard => ending_word(Outcome::Discarded, router, hops),
-        Entry::NoRoute => ending_word(Outcome::NoRoute, router, hops),
-        Entry::Forward(hop) => leave(guides, views, destination, router, hop, hops, left, visited),
+impl Visited {
+    // The router is written behind those that were visited before it.
+    fn visit(&mut self, hops: u8, router: u8)
+        requires { hops < 64 }
+        ensures { (self.new.routers ≡ set self.old.routers hops router) × (self.new.hops ≡ hops) }
+    {
+        self.routers[hops as usize] = router;
+        self.hops = hops;
     }
 }
 
-// The packet leaves a router for a hop: with no hop left, or over a link that does not carry, it is lost.
-#[cycle(arrive_leave)]
-fn leave<'a>(
-    guides: &'a Guides,
-    views: &'a [u8; 64],
-    destination: u8,
-    router: u8,
-    hop: u8,
-    hops: u8,
-    left: u8,
-    visited: &mut [u8; 64],
-) -> u32
-    requires { Standing guides.now router hops left }
-    ensures { Leaves guides.now views.now destination
-        router hop hops left visited.old result visited.new }
-{
-    if left == 0 {
-        return ending_word(Outcome::Lost, router, hops);
+// Arriving and leaving call one another, as the rules of a path do, and both ask for a packet that stands at one of 64 routers (`Standing`). An outcome
+// alone comes back, so that the compiler makes one loop of them: an ending would come back through memory, with a frame for each hop and in 2.2 times
+// the instructions. The hops are an argument too, since read back from memory they take 10 % more.
+impl<'a> Site<'a> {
+    // The entry of the router that decides after so many hops: its byte of the list says the view for the whole entry. The destination delivers in
+    // either view and reads no byte.
+    fn entry_at(&self, router: u8, previous: u8, hops: u8) -> Entry
+        requires { (router < 64) × (hops < 64) }
+        ensures { entry_told result
+            ≡ entry_at (site_over self.now.destination self.now.guides.now) (listed self.now.views.now) hops router previous }
+    {
+        if router == self.destination {
+            return Entry::Deliver;
+        }
+        let sets = self.guides.sets(self.views[hops as usize]);
+        // Two operands of one view, which says that the entry is by one: a wrong version takes the second from the other view.
+        let set = sets[router as usize];
+        let discarded = sets[router as usize];
+        decide(set, discarded, router, previous, self.destination)
     }
-    if has(guides[CARRIERS + (router as usize)], hop) {
-        return arrive(
-            guides,
-            views,
-            destination,
-            hop,
-            router,
-            hops + 1,
-            left - 1,
-            visited,
-        );
+
+    // The packet arrives at a router: its entry is applied.
+    #[cycle(arrive_leave)]
+    fn arrive(&self, router: u8, previous: u8, hops: u8, left: u8, visited: &mut Visited) -> Outcome
+        requires { Standing router hops left }
+        ensures { Arrives self.now router previous hops left visited.old result visited.new }
+    {
+        visited.visit(hops, router);
+        match self.entry_at(router, previous, hops) {
+            Entry::Deliver => Outcome::Delivered,
+            Entry::Discard => Outcome::Discarded,
+            Entry::NoRoute => Outcome::NoRoute,
+            Entry::Forward(hop) => self.leave(router, hop, hops, left, visited),
+        }
     }
-    ending_word(Outcome::Lost, router, hops)
+
+    // The packet leaves a router for a hop: with no hop left, or over a link that does not carry, it is lost.
+    #[cycle(arrive_leave)]
+    fn leave(&self, router: u8, hop: u8, hops: u8, left: u8, visited: &mut Visited) -> Outcome
+        requires { Standing router hops left × (visited.old.hops ≡ hops) }
+        ensures { Leaves self.now router hop hops left visited.old result visited.new }
+    {
+        if left == 0 {
+            return Outcome::Lost;
+        }
+        if has(self.guides.carriers[router as usize], hop) {
+            return self.arrive(hop, router, hops + 1, left - 1, visited);
+        }
+        Outcome::Lost
+    }
 }
 
-// The 64 places that following has for views, or for routers.
-fn no_bytes() -> [u8; 64]
-    ensures { result ≡ replicate 64 0 }
-{
-    [0; 64]
-}
-
-// The first n bytes of one list, over those of another.
-fn hand_over(n: usize, from: &[u8], to: &mut [u8])
-    requires { (n ≤ length from.now) × (n ≤ length to.old) }
-    ensures { to.new ≡ take n from.now ++ drop n to.old }
-{
-    let mut i = 0;
-    while i < n {
-        to[i] = from[i];
-        i += 1;
-    }
-}
-
-// One packet is followed by the first N - 1 views, and the visited routers are written one after the other.
+// One packet is followed by the first N - 1 views: how it ended, and the routers that it visited.
 fn follow_packet(
     guides: &Guides,
     routers: u8,
     source: u8,
     destination: u8,
     views: &[u8],
-    visited: &mut [u8; 64],
+    visited: &mut Visited,
 ) -> Ending
-    requires { Lent guides.now routers source views.now visited.old }
-    ensures { (result ≡ ending_after 0 (path_over guides.now routers source destination views.now))
-        × (visited.new ≡ written (path_over guides.now routers source destination views.now) visited.old) }
+    requires { Lent routers source views.now }
+    ensures { Ends result (path_over guides.now routers source destination views.now)
+        × (visited.new.routers ≡ written (path_over guides.now routers source destination views.now) visited.old.routers) }
 {
     let left = routers - 1;
-    let mut list = no_bytes();
-    hand_over(left as usize, views, &mut list);
-    let word = arrive(
+    let mut list = [0; 64];
+    list[..left as usize].copy_from_slice(&views[..left as usize]);
+    let site = Site {
         guides,
-        &list,
+        views: &list,
         destination,
-        source,
-        STARTS_HERE,
-        0,
-        left,
-        visited,
-    );
-    ending_in(word)
+    };
+    let outcome = site.arrive(source, STARTS_HERE, 0, left, visited);
+    Ending {
+        outcome,
+        router: visited.routers[visited.hops as usize],
+        hops: visited.hops,
+    }
 }
 
 // The trace gets the routers that a packet visited, one more than its hops; 10 where it has no room for N.
-fn tell(ending: Ending, routers: u8, visited: &[u8], trace: &mut [u8]) -> PathAnswer
-    requires { (ending.hops < routers) × (routers ≤ length visited.now) }
+fn tell(ending: Ending, routers: u8, visited: &[u8; 64], trace: &mut [u8]) -> Result<(), Reason>
+    requires { (ending.hops < routers) × (routers ≤ 64) }
     ensures { Tells ending routers visited.now trace.old result trace.new }
 {
     let found = (ending.hops as usize) + 1;
     if trace.len() < (routers as usize) {
-        return PathAnswer::Refused {
-            number: 10,
-            table: 0,
-            place: 0,
-        };
+        return Err(Reason::NoRoom);
     }
-    hand_over(found, visited, trace);
-    PathAnswer::Ended(ending)
-}
-
-// Whether each byte is 0 or 1.
-fn are_views(bytes: &[u8]) -> bool
-    ensures { result ≡ every (λ v. v ≤? 1) bytes.now }
-{
-    let mut n = 0;
-    while n < bytes.len() {
-        if 1 < bytes[n] {
-            return false;
-        }
-        n += 1;
-    }
-    true
+    trace[..found].copy_from_slice(&visited[..found]);
+    Ok(())
 }
 
 // 11: fewer than N - 1 views, or one of the first N - 1 that is neither 0 nor 1.
+#[tactic(auto, unfolding(rules::specs::PathQuestion::bad_views, rules::specs::PathQuestion::few_views))]
 fn views_are_bad(views: &[u8], routers: usize) -> bool
     requires { 0 < routers }
     ensures { result ≡ bad_views routers views.now }
@@ -332,65 +246,51 @@ fn views_are_bad(views: &[u8], routers: usize) -> bool
     if views.len() < count {
         return true;
     }
-    !are_views(&views[..count])
+    views[..count].iter().any(|view| 1 < *view)
 }
 
 // 9: a source or a destination that is not below N.
+#[tactic(auto, unfolding(rules::specs::PathQuestion::bad_numbers, rules::specs::Answers::bad_router))]
 fn numbers_are_bad(routers: u8, source: u64, destination: u64) -> bool
     ensures { result ≡ bad_numbers routers source destination }
 {
-    if (routers as u64) <= source {
-        return true;
-    }
-    (routers as u64) <= destination
+    (routers as u64) <= source || (routers as u64) <= destination
 }
 
-// The first of 9 and 11 that refuses, of tables of so many routers, by whether a number is bad; 0 for none.
-fn packet_number(routers: u8, bad: bool, views: &[u8]) -> u8
+// 9 and 11, of tables of so many routers.
+fn judge_packet(routers: u8, source: u64, destination: u64, views: &[u8]) -> Result<(), Reason>
     requires { 0 < routers }
-    ensures { result ≡ number_in (packet_refusals routers bad views.now) }
+    ensures { found_number result ≡ number_in (packet_refusals routers (bad_numbers routers source destination) views.now) }
 {
-    if bad {
-        return 9;
+    if numbers_are_bad(routers, source, destination) {
+        return Err(Reason::NoSuchRouter);
     }
     if views_are_bad(views, routers as usize) {
-        return 11;
+        return Err(Reason::BadViews);
     }
-    0
+    Ok(())
 }
 
 // The path of one packet in two tables that go together, where neither 9 nor 11 refuses.
 fn path_in(
-    old: &[u8],
-    o: Outline,
-    new: &[u8],
-    n: Outline,
+    tables: Together,
     source: u8,
     destination: u8,
     views: &[u8],
     trace: &mut [u8],
-) -> PathAnswer
-    requires { Followable (record {
-      old = old.now;
-      new = new.now;
-      source = source;
-      destination = destination;
-      views = views.now;
-      trace = trace.old;
-    }) o n }
-    ensures { AnswersPath (record {
-      old = old.now;
-      new = new.now;
-      source = source;
-      destination = destination;
-      views = views.now;
-      trace = trace.old;
-    }) result trace.new }
+) -> Result<Ending, Refusal>
+    requires { Followable (asked_of tables source destination views.now trace.old) }
+    ensures { AnswersPath (asked_of tables.entry source destination views.now trace.old) result trace.new }
 {
-    let guides = guides_to(old, o, new, n, destination);
-    let mut visited = no_bytes();
-    let ending = follow_packet(&guides, n.routers, source, destination, views, &mut visited);
-    tell(ending, n.routers, &visited, trace)
+    let routers = tables.new.outline.routers;
+    let guides = guides_to(tables, destination);
+    let mut visited = Visited {
+        routers: [0; 64],
+        hops: 0,
+    };
+    let ending = follow_packet(&guides, routers, source, destination, views, &mut visited);
+    tell(ending, routers, &visited.routers, trace)?;
+    Ok(ending)
 }
 
 // The path of one packet through routers of mixed views. The trace gets the visited routers in order, source first.
@@ -401,7 +301,7 @@ pub fn path(
     destination: u64,
     views: &[u8],
     trace: &mut [u8],
-) -> PathAnswer
+) -> Result<Ending, Refusal>
     ensures { AnswersPath (record {
       old = old.now;
       new = new.now;
@@ -411,41 +311,7 @@ pub fn path(
       trace = trace.old;
     }) result trace.new }
 {
-    let pairing = pair(old, new);
-    match pairing {
-        Pairing::Accepted {
-            differ: _,
-            old: o,
-            new: n,
-        } => {
-            let bad = numbers_are_bad(n.routers, source, destination);
-            let number = packet_number(n.routers, bad, views);
-            if number != 0 {
-                return PathAnswer::Refused {
-                    number,
-                    table: 0,
-                    place: 0,
-                };
-            }
-            path_in(
-                old,
-                o,
-                new,
-                n,
-                source as u8,
-                destination as u8,
-                views,
-                trace,
-            )
-        }
-        Pairing::Refused {
-            number,
-            table,
-            place,
-        } => PathAnswer::Refused {
-            number,
-            table,
-            place,
-        },
-    }
+    let tables = together(old, new)?;
+    judge_packet(tables.new.outline.routers, source, destination, views)?;
+    path_in(tables, source as u8, destination as u8, views, trace)
 }

@@ -1,25 +1,26 @@
 -- The pieces that are printed are the listing.
 -- Assumes nothing.
 use mathlib.Core.Path.{◌≡◌, refl, sym, ◌∙◌, ap, ap₂}
-use mathlib.Core.Logic.{◌≢◌}
 use mathlib.Core.Bool.{Bool, not}
 use mathlib.Core.List.{List, [], ◌∷◌, ◌++◌, map, flatten}
 use Prim.Native.Nat.{ℕ, ◌<◌}
 use native.Mathlib.Omega.{arith}
 use lib.ListN.{get_or}
+use Rattle.std.specs.Prelude.{Ok, Err}
 use Rattle.rules.specs.Words.{◌=?◌, those, below, All}
 use Rattle.rules.specs.Table.{Judged, accepted, refused, read, number_of, place_of, records_of, table_of, says}
 use Rattle.rules.specs.Costs.{cost, no_cost}
 use Rattle.rules.specs.NextHops.{next_hops}
 use Rattle.rules.specs.Listing.{line_of, line, lines_from, lines, header, refusal_line, listing_lines, listing}
 use Rattle.rules.specs.Demand1.{IsAccepted}
+use Rattle.rules.specs.Answers.{of_table}
 use Rattle.rules.proofs.Basics.{All-map, all_those, value_at}
 use Rattle.rules.proofs.Acceptance.{obeys}
 use Rattle.rules.proofs.LeastCost.{costs_hold_both_ways}
 use Rattle.rules.proofs.Refusals.{table_refusals}
 use Rattle.tables.specs.Readings.{outline_of}
 use Rattle.tables.specs.declared.Outline.{Outline}
-use Rattle.tables.specs.declared.Reading.TheVariants.{Accepted, Refused}
+use Rattle.refusals.specs.Refusals.{number_of as number_of_reason, refusal_told}
 use Rattle.tables.proofs.Asked.{reading_accepted, reading_refused, own_routers, few_routers}
 use Rattle.webs.specs.Webs.{web_weight, web_at}
 use Rattle.search.specs.Search.{found_from}
@@ -88,19 +89,20 @@ module _ (table : List ℕ) (a : IsAccepted table) (t : Outline) (q : t ≡ outl
 
 pub prints_the_listing : PrintsTheListing
 unfolding pieces listing listing_lines flatten says
-prints_the_listing table (Accepted t) p = go (read table) refl
+prints_the_listing table (Ok t) p = go (read table) refl
   where
     told : IsAccepted table × (t ≡ outline_of table)
-    told = reading_accepted table (Accepted t) t p refl
+    told = reading_accepted table t p
 
     go : (j : Judged) → read table ≡ j → header ++ flatten (map (page_of table t) (below t.routers)) ≡ flatten (listing_lines j)
     go (accepted rs end) e = ap (λ l. header ++ l) (own_pages table told.0 t told.1 ∙ ap (λ j. flatten (lines (table_of (records_of j)))) e)
     go (refused number place) e = absurd (omega (arith, sym (ap number_of e) ∙ told.0, table_refusals table number place e))
-prints_the_listing table (Refused number place) p = go (read table) refl
+prints_the_listing table (Err r) p = go (read table) refl
   where
-    told : (number_of (read table) ≡ number) × (place_of (read table) ≡ place) × (number ≢ 0)
-    told = reading_refused table (Refused number place) number place p refl
+    told : (¬ IsAccepted table) × (refusal_told r ≡ of_table 0 table)
+    told = reading_refused table r p
 
-    go : (j : Judged) → read table ≡ j → refusal_line number place ++ [] ≡ flatten (listing_lines j)
-    go (accepted rs end) e = absurd (told.2 (sym told.0 ∙ ap number_of e))
-    go (refused m k) e = ap₂ (λ m k. refusal_line m k ++ []) (sym told.0 ∙ ap number_of e) (sym told.1 ∙ ap place_of e)
+    go : (j : Judged) → read table ≡ j → refusal_line (number_of_reason r.reason) r.place ++ [] ≡ flatten (listing_lines j)
+    go (accepted rs end) e = absurd (told.0 (ap number_of e))
+    go (refused m k) e =
+        ap₂ (λ m k. refusal_line m k ++ []) (ap (λ f. f.number) told.1 ∙ ap number_of e) (ap (λ f. f.place) told.1 ∙ ap place_of e)

@@ -5,23 +5,22 @@ ghost use Rattle.streams.specs.Streams.{Grows};
 
 mod readers;
 
-use case_files::records::{MOST_RECORDS, Question, held, load, next_question};
+use case_files::records::{Load, MOST_RECORDS, Question, next_question};
 use std::io;
 use std::io::Write;
 
-// The line of one question; what is no question has none.
+// The line of one question; what is no question has none. The letter is input, so it is matched.
 #[tactic(auto, using(streams::proofs::Grows::grows_by_none))]
-fn answer<'a, W: Write>(
+fn answer<W: Write>(
     out: &mut W,
     q: Question,
-    old: &'a [u8],
-    new: &'a [u8],
-    views: &'a [u8],
+    old: &[u8],
+    new: &[u8],
+    views: &[u8],
 ) -> io::Result<()>
     ensures { Grows (W.contents out.old) (W.contents out.new) }
 {
-    let letter = q.letter;
-    match letter {
+    match q.letter {
         b'r' => case_answers::reading(out, old),
         b'l' => readers::links(out, old),
         b'p' => case_answers::pairing(out, old, new),
@@ -39,33 +38,21 @@ fn answer<'a, W: Write>(
 fn main(rt: HostRuntime) -> io::Result<()> {
     let mut input = rt.stdin();
     let mut out = rt.stdout();
-    let mut old = load();
-    let mut new = load();
-    let mut views = load();
-    let mut old_length = 0;
-    let mut new_length = 0;
-    let mut views_length = 0;
+    let mut old = Load::new();
+    let mut new = Load::new();
+    let mut views = Load::new();
     for _ in 0..MOST_RECORDS {
-        let q = next_question(&mut input)?;
-        if q.letter == 0 {
+        let Some(q) = next_question(&mut input)? else {
             return Ok(());
+        };
+        // input, as in `answer`: which load comes
+        match q.letter {
+            b'o' => old.read(&mut input, q.load)?,
+            b'n' => new.read(&mut input, q.load)?,
+            b't' => views.read(&mut input, q.load)?,
+            _ => {}
         }
-        old_length = held(&mut input, q.letter == b'o', &mut old, old_length, q.load)?;
-        new_length = held(&mut input, q.letter == b'n', &mut new, new_length, q.load)?;
-        views_length = held(
-            &mut input,
-            q.letter == b't',
-            &mut views,
-            views_length,
-            q.load,
-        )?;
-        answer(
-            &mut out,
-            q,
-            &old[..old_length],
-            &new[..new_length],
-            &views[..views_length],
-        )?;
+        answer(&mut out, q, old.bytes(), new.bytes(), views.bytes())?;
     }
     Ok(())
 }

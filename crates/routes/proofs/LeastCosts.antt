@@ -4,6 +4,7 @@ use mathlib.Core.Path.{◌≡◌, sym, ◌∙◌, ap}
 use mathlib.Core.Logic.{◌↔◌}
 use mathlib.Core.List.{List, map}
 use Prim.Native.Nat.{ℕ, ◌+◌, ◌<◌}
+use Rattle.std.specs.Prelude.{Ok, Err}
 use lib.ListN.{get_or}
 use lib.Seq.{get_or-take}
 use Rattle.rules.specs.Words.{below}
@@ -20,8 +21,8 @@ use Rattle.rules.proofs.Acceptance.{obeys}
 use Rattle.rules.proofs.LeastCost.{costs_are_least}
 use Rattle.rules.proofs.Sets.{sets_have_neighbours}
 use Rattle.rules.proofs.FillQuestion.{fill_proved}
-use Rattle.routes.specs.declared.Filling.TheVariants.{Filled, Refused}
-use Rattle.routes.specs.Fillings.{filling_numbers}
+use Rattle.refusals.specs.Refusals.{answer_told}
+use Rattle.refusals.proofs.Told.{some_number}
 use Rattle.routes.specs.LeastCosts.{LeadTo, SameFrom, LeastCostsOfTheCode}
 
 -- what an output of n places holds at each of them
@@ -51,8 +52,8 @@ module _ (t : Table) (o : Obeys t) (d : ℕ) (costs sets : List ℕ)
   }
 
 pub least_costs_of_the_code : LeastCostsOfTheCode
-unfolding filling_numbers
-least_costs_of_the_code q (Filled n) costs sets (p, own, c, s) = (
+unfolding answer_told
+least_costs_of_the_code q (Ok n) costs sets (p, c, s) = (
   h,
   e,
   lead_to t (obeys q.table h.0) q.destination costs sets (at _ _ q.costs costs filled) (at _ _ q.sets sets set),
@@ -77,11 +78,11 @@ least_costs_of_the_code q (Filled n) costs sets (p, own, c, s) = (
 
     set : Holds t.routers (filled_sets t q.destination) q.sets sets
     set = rw s ((fill_proved q).sets_held.held a)
-least_costs_of_the_code q (Refused number place) costs sets (p, n, c, s) = (
+least_costs_of_the_code q (Err r) costs sets (p, c, s) = (
   λ h. m ((fill_proved q).exactly.asked.1 h),
   c ∙ (fill_proved q).costs_held.stays m,
   s ∙ (fill_proved q).sets_held.stays m,
 )
   where
     m : Answered (fill_answer q) → ⊥
-    m z = n (ap (λ (x : Answer ℕ). x.refusal.number) p ∙ z)
+    m z = some_number r.reason (ap (λ (x : Answer ℕ). x.refusal.number) p ∙ z)

@@ -1,5 +1,6 @@
 pub mod Answers
-pub mod HandedOver
 pub mod Hops
 pub mod Settled
 pub mod LeastCosts
+pub mod Found
+pub mod Called

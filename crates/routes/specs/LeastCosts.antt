@@ -1,6 +1,6 @@
 -- Costs and next-hop sets of what the fill's function answers and writes: the least cost of all routes, and the neighbours that lead on at that cost.
 -- The statement is proved in proofs/LeastCosts.
-use Rattle.std.specs.Prelude.{◌≡◌, ◌↔◌, true, List, ℕ, ◌+◌, ◌<◌, length, get_or, drop}
+use Rattle.std.specs.Prelude.{◌≡◌, ◌↔◌, true, List, ℕ, ◌+◌, ◌<◌, length, get_or, drop, Result, Ok, Err}
 use Rattle.rules.specs.Layout.{Table}
 use Rattle.rules.specs.Table.{says}
 use Rattle.rules.specs.Links.{weight}
@@ -8,8 +8,7 @@ use Rattle.rules.specs.Costs.{LeastCost}
 use Rattle.rules.specs.NextHops.{has}
 use Rattle.rules.specs.Answers.{AllHold}
 use Rattle.rules.specs.FillQuestion.{FillInputs, fill_cases}
-use Rattle.routes.specs.declared.Filling.{Filling}
-use Rattle.routes.specs.declared.Filling.TheVariants.{Filled, Refused}
+use Rattle.refusals.specs.declared.Refusal.{Refusal}
 use Rattle.routes.specs.Fillings.{Fills}
 
 -- At place i stands the least cost of all routes from router i to d, 4294967295 exactly where there is none, and the set of every neighbour k with
@@ -25,15 +24,15 @@ SameFrom n lent after = (length after ≡ length lent) × (drop n after ≡ drop
 
 -- what is asked rightly is answered by N, with N costs and N sets written and nothing behind them; a refusal, whose number is the question's
 -- (`FillQuestion`), changes no place
-abbrev pub OfFilling : FillInputs → Filling → List ℕ → List ℕ → Type 0
-OfFilling q (Filled n) costs sets =
+abbrev pub OfFilling : FillInputs → Result ℕ Refusal → List ℕ → List ℕ → Type 0
+OfFilling q (Ok n) costs sets =
     AllHold (fill_cases q)
     × (n ≡ (says q.table).routers)
     × LeadTo (says q.table) q.destination costs sets
     × SameFrom n q.costs costs
     × SameFrom n q.sets sets
-OfFilling q (Refused number place) costs sets = (¬ AllHold (fill_cases q)) × (costs ≡ q.costs) × (sets ≡ q.sets)
+OfFilling q (Err r) costs sets = (¬ AllHold (fill_cases q)) × (costs ≡ q.costs) × (sets ≡ q.sets)
 
 -- whatever bytes and numbers arrive
 abbrev pub LeastCostsOfTheCode : Type 0
-LeastCostsOfTheCode = (q : FillInputs) (r : Filling) (costs sets : List ℕ) → Fills q r costs sets → OfFilling q r costs sets
+LeastCostsOfTheCode = (q : FillInputs) (r : Result ℕ Refusal) (costs sets : List ℕ) → Fills q r costs sets → OfFilling q r costs sets

@@ -1,30 +1,23 @@
 // Next-hop sets over a web, and the fill: costs and sets of one destination.
 #![tactic(auto)]
 
-ghost use Rattle.std.specs.Prelude.{◌≡◌, ◌++◌, ◌^◌, ◌<◌, ◌≤◌, length, take, drop};
+ghost use Rattle.std.specs.Prelude.{◌≡◌, ◌++◌, ◌^◌, ◌<◌, ◌≤◌, length, drop};
 ghost use Rattle.rules.specs.Words.{pick};
 ghost use Rattle.rules.specs.Table.{says};
-ghost use Rattle.rules.specs.Demand1.{IsAccepted};
 ghost use Rattle.rules.specs.Answers.{number_in};
 ghost use Rattle.rules.specs.FillQuestion.{fill_refusals, filled_costs, filled_sets};
-ghost use Rattle.tables.specs.Readings.{outline_of};
-ghost use Rattle.webs.specs.Webs.{weight_over, IsWeb};
+ghost use Rattle.refusals.specs.Refusals.{found_number};
+ghost use Rattle.webs.specs.Webs.{web_weight};
 ghost use Rattle.search.specs.Search.{as_cheap, hops_over, cost_at};
-ghost use Rattle.search.specs.Steps.{AreCosts};
 ghost use Rattle.routes.specs.Fillings.{Fills};
 ghost use Rattle.routes.specs.Hops.{FindsHops, FindsSets};
 
+use refusals::{Reason, Refusal};
 use search::costs_from;
-use sets::no_sets;
-use tables::{Outline, Reading, read};
+use sets::members;
+use std::array;
+use tables::{Table, accept};
 use webs::{Web, web_of};
-
-// The fill's answer: N, or a number and a place.
-#[derive(Clone, Copy)]
-pub enum Filling {
-    Filled(u8),
-    Refused { number: u8, place: usize },
-}
 
 // Router k's bit where the weight and k's cost `there` make the cost `here`, else 0; weight 0 is no link.
 fn leads(k: usize, weight: u16, there: u32, here: u32) -> u64
@@ -39,101 +32,81 @@ fn leads(k: usize, weight: u16, there: u32, here: u32) -> u64
 }
 
 // The next-hop set of one router: one walk over its links.
-fn hops_at<'a>(near: &'a [u64; 64], weights: &'a [u16; 4096], costs: &'a [u32; 64], i: usize) -> u64
-    requires { IsWeb near.now weights.now × AreCosts costs.now × (i < 64) }
-    ensures { result ≡ hops_over (weight_over near.now weights.now) (cost_at costs.now) i }
+fn hops_at(web: &Web, costs: &[u32; 64], i: usize) -> u64
+    requires { i < 64 }
+    ensures { result ≡ hops_over (web_weight web.now) (cost_at costs.now) i }
 {
     let here = costs[i];
     let mut set = 0;
-    let mut rest = near[i];
-    while rest != 0 {
-        let k = u64::trailing_zeros(rest) as usize;
-        set += leads(k, weights[64 * i + k], costs[k], here);
-        rest = rest & (rest - 1);
+    for k in members(web.near[i]) {
+        set += leads(k, web.weights[64 * i + k], costs[k], here);
     }
     set
 }
 
 // The next-hop set of one router, by the costs to a destination.
-pub fn next_hops(web: Web, costs: [u32; 64], router: u8) -> u64
-    ensures { FindsHops web costs router result }
+#[tactic(auto, using(crate::proofs::Hops::no_hops))]
+pub fn next_hops(web: &Web, costs: &[u32; 64], router: u8) -> u64
+    ensures { FindsHops web.now costs.now router result }
 {
-    if 64 <= router {
-        return 0;
+    let i = router as usize;
+    match web.near.get(i) {
+        Some(_) => hops_at(web, costs, i),
+        None => 0,
     }
-    hops_at(&web.near, &web.weights, &costs, router as usize)
 }
 
 // The next-hop sets of all routers, by the costs to a destination: the set of each router in turn.
-pub fn sets_by(web: Web, costs: [u32; 64]) -> [u64; 64]
-    ensures { FindsSets web costs result }
+pub fn sets_by(web: &Web, costs: &[u32; 64]) -> [u64; 64]
+    ensures { FindsSets web.now costs.now result }
 {
-    let mut sets = no_sets();
-    let mut i = 0;
-    while i < 64 {
-        sets[i] = hops_at(&web.near, &web.weights, &costs, i);
-        i += 1;
-    }
-    sets
-}
-
-// The first n costs and sets, into the lent outputs.
-fn hand_over(n: usize, found: [u32; 64], hops: [u64; 64], costs: &mut [u32], sets: &mut [u64])
-    requires { (n ≤ 64) × (n ≤ length costs.old) × (n ≤ length sets.old) }
-    ensures { (costs.new ≡ take n found ++ drop n costs.old) × (sets.new ≡ take n hops ++ drop n sets.old) }
-{
-    let mut i = 0;
-    while i < n {
-        costs[i] = found[i];
-        sets[i] = hops[i];
-        i += 1;
-    }
+    array::from_fn(|i| hops_at(web, costs, i))
 }
 
 // The fill of an accepted table whose outputs are long enough.
-fn fill_accepted(table: &[u8], t: Outline, destination: u8, costs: &mut [u32], sets: &mut [u64])
-    requires { IsAccepted table.now × (t ≡ outline_of table.now) × (destination < t.routers)
-        × (t.routers ≤ length costs.old) × (t.routers ≤ length sets.old) }
-    ensures { (costs.new ≡ filled_costs (says table.now) destination ++ drop t.routers costs.old)
-        × (sets.new ≡ filled_sets (says table.now) destination ++ drop t.routers sets.old) }
+#[tactic(auto, using(crate::proofs::Found::lengths))]
+fn fill_accepted(table: Table, destination: u8, costs: &mut [u32], sets: &mut [u64])
+    requires { (destination < table.outline.routers)
+        × (table.outline.routers ≤ length costs.old) × (table.outline.routers ≤ length sets.old) }
+    ensures { (costs.new ≡ filled_costs (says table.entry.bytes.now) destination ++ drop table.entry.outline.routers costs.old)
+        × (sets.new ≡ filled_sets (says table.entry.bytes.now) destination ++ drop table.entry.outline.routers sets.old) }
 {
-    let web = web_of(table, t);
-    let found = costs_from(web, destination);
-    let hops = sets_by(web, found);
-    hand_over(t.routers as usize, found, hops, costs, sets);
+    let web = web_of(table.bytes, table.outline);
+    let found = costs_from(&web, destination);
+    let hops = sets_by(&web, &found);
+    let n = table.outline.routers as usize;
+    costs[..n].copy_from_slice(&found[..n]);
+    sets[..n].copy_from_slice(&hops[..n]);
 }
 
-// The first of 9 and 10 that refuses, of a table of so many routers, with so many places for costs and for sets; 0 for none.
-fn fill_number(routers: u8, destination: u64, costs: usize, sets: usize) -> u8
-    ensures { result ≡ number_in (fill_refusals routers destination costs sets) }
+// 9 and 10, of a table of so many routers, with so many places for costs and for sets.
+#[tactic(auto, unfolding(rules::specs::FillQuestion::fill_refusals))]
+fn judge_fill(routers: u8, destination: u64, costs: usize, sets: usize) -> Result<(), Reason>
+    ensures { found_number result ≡ number_in (fill_refusals routers destination costs sets) }
 {
     if (routers as u64) <= destination {
-        return 9;
+        return Err(Reason::NoSuchRouter);
     }
-    if costs < (routers as usize) {
-        return 10;
+    if costs < (routers as usize) || sets < (routers as usize) {
+        return Err(Reason::NoRoom);
     }
-    if sets < (routers as usize) {
-        return 10;
-    }
-    0
+    Ok(())
 }
 
-// The fill: N costs and N sets of a destination.
-pub fn fill(table: &[u8], destination: u64, costs: &mut [u32], sets: &mut [u64]) -> Filling
+// The fill: N costs and N sets of a destination; the answer is N.
+#[tactic(auto, using(tables::proofs::Asked::few_routers), unfolding(rules::specs::FillQuestion::fill_refusals))]
+pub fn fill(
+    table: &[u8],
+    destination: u64,
+    costs: &mut [u32],
+    sets: &mut [u64],
+) -> Result<u8, Refusal>
     ensures { Fills (record { table = table.now; destination = destination; costs = costs.old; sets = sets.old }) result
         costs.new sets.new }
 {
-    let reading = read(table);
-    match reading {
-        Reading::Accepted(t) => {
-            let number = fill_number(t.routers, destination, costs.len(), sets.len());
-            if number != 0 {
-                return Filling::Refused { number, place: 0 };
-            }
-            fill_accepted(table, t, destination as u8, costs, sets);
-            Filling::Filled(t.routers)
-        }
-        Reading::Refused { number, place } => Filling::Refused { number, place },
-    }
+    let t = accept(table)?;
+    let n = t.outline.routers;
+    judge_fill(n, destination, costs.len(), sets.len())?;
+    fill_accepted(t, destination as u8, costs, sets);
+    Ok(n)
 }

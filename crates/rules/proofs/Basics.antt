@@ -14,6 +14,7 @@ use lib.Dec.{eqb, ltb}
 use lib.ListN.{length, get_or, take, drop, replicate, length-append, length-map, get_or-append, get_or-eq_default, drop_of_length-le}
 use lib.Seq.{get_or_at, take-nil, drop-cons}
 use borrow.Author.Tests.{ltb-true, lt-ltb, le-ltb, eq-eqb, ne_eqb}
+use Rattle.std.specs.List.{list_all}
 use Rattle.rules.specs.Words.{pick, every, those, tally, below, All, Distinct, Rising}
 
 -- ---- tests
@@ -197,6 +198,12 @@ module _ {A : Type 0} where
       go : (t : Bool) → pick t (x ∷ (those p xs ++ those p ys)) (those p xs ++ those p ys) ≡ pick t (x ∷ those p xs) (those p xs) ++ those p ys
       go true = refl
       go false = refl
+
+  -- the test of every element, as std says it
+  pub list_all_every : (p : A → Bool) (xs : List A) → list_all p xs ≡ every p xs
+  unfolding every
+  list_all_every p [] = refl
+  list_all_every p (x ∷ xs) = ap (λ r. p x && r) (list_all_every p xs)
 
   -- a test that every element passes
   pub every_true : (p : A → Bool) (P : A → Type 0) → ((x : A) → p x ≡ true → P x) → (xs : List A) → every p xs ≡ true → All P xs

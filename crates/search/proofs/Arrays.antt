@@ -6,16 +6,25 @@ use mathlib.Core.List.{List}
 use Prim.Native.Nat.{ℕ, ◌≤◌, ◌<◌}
 use native.Mathlib.Decide.{ℕ_discrete, dec_lt}
 use native.Mathlib.Omega.{arith}
-use lib.ListN.{get_or, set, replicate, length-set, length-replicate, get_or-replicate, get_or-eq_default}
+use lib.ListN.{length, get_or, set, replicate, length-set, length-replicate, get_or-replicate, get_or-eq_default}
 use lib.Seq.{get_or-set_same, get_or-set_other}
 use Rattle.rules.specs.Costs.{no_cost}
 use Rattle.rules.specs.NextHops.{has}
 use Rattle.rules.proofs.Basics.{any_default, same_everywhere}
-use Rattle.sets.proofs.Members.{nobody}
+use Rattle.sets.proofs.ByMembers.{nobody}
 use Rattle.search.specs.Search.{cost_at}
-use Rattle.search.specs.Steps.{AreCosts, AreSets}
+use Rattle.search.specs.Steps.{AreSets}
 
 -- ---- costs
+
+-- what the type of the array says: 64 costs of 32 bits
+pub record AreCosts (costs : List ℕ) : Type 0 where
+  pub long : length costs ≡ 64
+  pub fit : (k : ℕ) → get_or costs k 0 ≤ no_cost
+
+-- as a proof has it of an array behind a reference
+pub are_costs : (costs : List ℕ) → length costs ≡ 64 → ((k : ℕ) → get_or costs k 0 < 4294967296) → AreCosts costs
+are_costs costs l f = record { long = l; fit = λ k. omega (arith, f k) }
 
 -- the code reads costs with default 0
 pub as_read : (costs : List ℕ) → AreCosts costs → (k : ℕ) → k < 64 → get_or costs k 0 ≡ cost_at costs k

@@ -1,22 +1,22 @@
 -- First hops carried on over the links of router m, by the walk that carries its cost on.
 -- Assumes nothing.
 use mathlib.Core.Path.{◌≡◌, refl, sym, ◌∙◌, ap}
-use mathlib.Core.Logic.{◌≢◌, inl, inr}
+use mathlib.Core.Logic.{inl, inr}
 use mathlib.Core.Bool.{Bool, true, false}
-use mathlib.Core.List.{List}
+use mathlib.Core.List.{List, []}
 use Prim.Native.Nat.{ℕ, suc, ◌+◌, ◌*◌, ◌^◌, ◌≤◌, ◌<◌}
 use native.Mathlib.Decide.{ℕ_discrete, dec_lt}
 use native.Mathlib.Omega.{arith}
 use lib.Bits.{bit_or, or_lt}
 use lib.ListN.{length, get_or, set, length-set, get_or-eq_default}
 use lib.Pow.{pow-lt}
-use lib.Seq.{ext_get_or, get_or-set_same, get_or-set_other}
+use lib.Seq.{get_or-set_same, get_or-set_other}
 use borrow.Author.Tests.{eqb-true, eqb-false, eq-eqb, ne_eqb}
 use Rattle.rules.specs.Words.{◌=?◌, pick}
 use Rattle.rules.specs.NextHops.{has}
 use Rattle.rules.proofs.Basics.{pick_t, pick_f, length_values, value_at}
 use Rattle.rules.proofs.CostLaws.{Net}
-use Rattle.sets.proofs.Members.{own_bit, only_bit}
+use Rattle.sets.proofs.ByMembers.{own_bit, only_bit}
 use Rattle.sets.proofs.Walk.{Turn, at_end, Changed, none_changed, one_changed, all_changed}
 use Rattle.webs.specs.Webs.{weight_over}
 use Rattle.webs.proofs.Webs.{weight_there, weight_none}
@@ -28,14 +28,6 @@ use Rattle.search.proofs.FirstHops.{First}
 use Rattle.search.proofs.Easing.{Eased, cost_now}
 
 -- ---- one router
-
--- the set that stands there already
-same_written : (sets : List ℕ) (k v : ℕ) → k < 64 → AreSets sets → v ≡ get_or sets k 0 → sets ≡ set sets k v
-same_written sets k v h a e = ext_get_or 0 sets (set sets k v) (sym (length-set sets k v)) (λ j l. go j (ℕ_discrete j k))
-  where
-    go : (j : ℕ) → Dec (j ≡ k) → get_or sets j 0 ≡ get_or (set sets k v) j 0
-    go j (yes q) = rw q (sym (get_or-set_same sets k v 0 (omega (arith, a.long)) ∙ e))
-    go j (no d) = sym (get_or-set_other sets k j v 0 d)
 
 -- the first hops afterwards: those over the link alone where it is cheaper, those too where it is as cheap, else those before
 pub data Renewal (weight from now hops over after : ℕ) : Type 0 where
@@ -76,23 +68,6 @@ module _ (weight from now hops over : ℕ) where
           anew f (renewed_cheaper f)
       go (yes l) (no u) (yes e) = joined (no_cheaper weight from now (omega arith)) l e (renewed_as_cheap l e)
       go (yes l) (no u) (no a) = kept (no_cheaper weight from now (omega arith)) (λ h. omega arith) (renewed_dearer (omega arith))
-
--- what the code writes, by its tests
-module _ (sets : List ℕ) (a : AreSets sets) (k weight from now over : ℕ) (h : k < 64) where
-  abbrev new : ℕ
-  new = renewed weight from now (get_or sets k 0) over
-
-  pub unlinked_stays : weight ≡ 0 → sets ≡ set sets k new
-  unlinked_stays e = same_written sets k new h a (renewed_unlinked weight from now (get_or sets k 0) over e)
-
-  pub cheaper_written : weight ≢ 0 → weight + from < now → set sets k over ≡ set sets k new
-  cheaper_written l u = ap (set sets k) (sym (renewed_cheaper weight from now (get_or sets k 0) over (is_cheaper weight from now l u)))
-
-  pub as_cheap_written : weight ≢ 0 → weight + from ≡ now → set sets k (bit_or (get_or sets k 0) over) ≡ set sets k new
-  as_cheap_written l e = ap (set sets k) (sym (renewed_as_cheap weight from now (get_or sets k 0) over (omega arith) e))
-
-  pub dearer_stays : now ≤ weight + from → weight + from ≢ now → sets ≡ set sets k new
-  dearer_stays l d = same_written sets k new h a (renewed_dearer weight from now (get_or sets k 0) over (omega arith))
 
 -- ---- all routers
 
@@ -169,13 +144,13 @@ module _ (near weights : List ℕ) (i m : ℕ) (old sets : List ℕ) where
   pub none_carried : AreSets sets → Carries near weights i m old sets sets 0
   none_carried a = record { were = a; are = a; changed = none_changed 0 at sets }
 
-  module _ (costs : List ℕ) (fell rest p : ℕ) (e : Eased near weights m old costs fell rest p) (after : List ℕ)
+  module _ (costs : List ℕ) (fell : ℕ) (left : List ℕ) (p : ℕ) (e : Eased near weights m old costs fell left p) (after : List ℕ)
       (w : Carries near weights i m old sets after p) where
     -- one router more
-    pub one_carried : (k : ℕ) → Turn (get_or near m 0) rest p k → (over : ℕ) → over ≡ handed sets i m k → (next : List ℕ)
+    pub one_carried : (k : ℕ) (rest : List ℕ) → Turn (get_or near m 0) p k rest → (over : ℕ) → over ≡ handed sets i m k → (next : List ℕ)
         → next ≡ set after k (renewed (get_or weights (64 * m + k) 0) (get_or old m 0) (get_or costs k 0) (get_or after k 0) over)
         → Carries near weights i m old sets next (suc k)
-    one_carried k t over o next n = rw (n ∙ ap (set after k) value) (record {
+    one_carried k rest t over o next n = rw (n ∙ ap (set after k) value) (record {
       were = w.were;
       are = record { long = length-set after k (at k) ∙ w.are.long; fit = λ j. fit j (ℕ_discrete j k) };
       changed =
@@ -186,7 +161,7 @@ module _ (near weights : List ℕ) (i m : ℕ) (old sets : List ℕ) where
         value : renewed (get_or weights (64 * m + k) 0) (get_or old m 0) (get_or costs k 0) (get_or after k 0) over ≡ at k
         value = rw (
           o,
-          cost_now near weights m old costs fell rest p e k t,
+          cost_now near weights m old costs fell left p e k rest t,
           w.changed.yet k t.beyond,
           as_read old e.were m e.from,
           weight_there near weights m k t.member,
@@ -200,8 +175,8 @@ module _ (near weights : List ℕ) (i m : ℕ) (old sets : List ℕ) where
         fit j (no q) = rw (get_or-set_other after k j (at k) 0 q) (w.are.fit j)
 
     -- at the end no link is left
-    pub all_carried : rest ≡ 0 → after ≡ carried (weight_over near weights) old i sets m
+    pub all_carried : left ≡ [] → after ≡ carried (weight_over near weights) old i sets m
     unfolding carried
     all_carried z =
         all_changed 0 at sets after p w.changed 64 w.are.long
-        (λ k l. unlinked k (at_end (get_or near m 0) rest p e.passed z k l))
+        (λ k l. unlinked k (at_end (get_or near m 0) left p e.passed z k l))

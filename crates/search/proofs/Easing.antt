@@ -3,30 +3,28 @@
 use mathlib.Core.Path.{◌≡◌, refl, sym, ◌∙◌, ap}
 use mathlib.Core.Logic.{◌≢◌}
 use mathlib.Core.Bool.{Bool, true, false}
-use mathlib.Core.List.{List}
-use Prim.Native.Nat.{ℕ, suc, ◌+◌, ◌-◌, ◌*◌, ◌^◌, ◌≤◌, ◌<◌}
+use mathlib.Core.List.{List, [], ◌∷◌}
+use Prim.Native.Nat.{ℕ, suc, ◌+◌, ◌*◌, ◌^◌, ◌≤◌, ◌<◌}
 use native.Mathlib.Omega.{arith}
-use lib.Bits.{bit_and}
-use lib.Count.{count_trailing_zeros}
 use lib.ListN.{get_or, set}
 use lib.Seq.{get_or-set_other}
 use Rattle.rules.specs.Words.{pick}
 use Rattle.rules.specs.Costs.{no_cost}
-use Rattle.rules.specs.NextHops.{has}
+use Rattle.rules.specs.NextHops.{has, members}
 use Rattle.rules.proofs.Basics.{pick_t, pick_f}
 use Rattle.sets.proofs.Walk.{Passed, Turn, setting_out, next_member, at_end, Made, none_made, one_made, made_fits, all_made, Changed, none_changed, one_changed, all_changed}
-use Rattle.webs.specs.Webs.{weight_over, IsWeb}
-use Rattle.webs.proofs.Webs.{weight_there, weight_none}
-use Rattle.search.specs.Steps.{AreCosts, cheaper, falls, lowered, eased, fallen}
+use Rattle.webs.specs.Webs.{weight_over}
+use Rattle.webs.proofs.Webs.{IsWeb, weight_there, weight_none}
+use Rattle.search.specs.Steps.{cheaper, falls, lowered, eased, fallen}
 use Rattle.search.specs.Search.{cost_at}
-use Rattle.search.proofs.Arrays.{as_read, cost_written, written_costs}
+use Rattle.search.proofs.Arrays.{AreCosts, as_read, cost_written, written_costs}
 use Rattle.search.proofs.OneLink.{no_link_cheaper, cheaper_says}
 
 -- ---- the walk
 
 -- The walk has passed all routers below p: their costs are those over router m's links, and `fell` is the set of those among them whose cost fell.
-pub record Eased (near weights : List ℕ) (m : ℕ) (old costs : List ℕ) (fell rest p : ℕ) : Type 0 where
-  pub passed : Passed (get_or near m 0) rest p
+pub record Eased (near weights : List ℕ) (m : ℕ) (old costs : List ℕ) (fell : ℕ) (left : List ℕ) (p : ℕ) : Type 0 where
+  pub passed : Passed (get_or near m 0) left p
   pub from : m < 64
   pub were : AreCosts old
   pub are : AreCosts costs
@@ -41,9 +39,9 @@ module _ (near weights : List ℕ) (m : ℕ) (old : List ℕ) where
   unlinked : (j : ℕ) → has (get_or near m 0) j ≡ false → falls w old m j ≡ false
   unlinked j e = no_link_cheaper _ _ _ (weight_none near weights m j e)
 
-  pub none_eased : IsWeb near weights → m < 64 → AreCosts old → Eased near weights m old old 0 (get_or near m 0) 0
-  none_eased b h a = record {
-    passed = setting_out (get_or near m 0) (b.near_fits m);
+  pub none_eased : IsWeb near weights → m < 64 → AreCosts old → (left : List ℕ) → left ≡ members (get_or near m 0) → Eased near weights m old old 0 left 0
+  none_eased b h a left e = record {
+    passed = setting_out (get_or near m 0) left (b.near_fits m) e;
     from = h;
     were = a;
     are = a;
@@ -51,25 +49,25 @@ module _ (near weights : List ℕ) (m : ℕ) (old : List ℕ) where
     made = none_made (falls w old m);
   }
 
-  module _ (costs : List ℕ) (fell rest p : ℕ) (e : Eased near weights m old costs fell rest p) where
-    pub next_linked : rest ≢ 0 → Turn (get_or near m 0) rest p (count_trailing_zeros 64 rest)
-    next_linked s = next_member (get_or near m 0) rest p e.passed s
+  module _ (costs : List ℕ) (fell : ℕ) (left : List ℕ) (p : ℕ) (e : Eased near weights m old costs fell left p) where
+    pub next_linked : (k : ℕ) (rest : List ℕ) → left ≡ k ∷ rest → Turn (get_or near m 0) p k rest
+    next_linked k rest s = next_member (get_or near m 0) left p e.passed k rest s
 
     -- the cost of a router that is yet to be passed
-    pub cost_now : (k : ℕ) → Turn (get_or near m 0) rest p k → get_or costs k 0 ≡ cost_at old k
-    cost_now k t = as_read costs e.are k t.router ∙ e.changed.yet k t.beyond
+    pub cost_now : (k : ℕ) (rest : List ℕ) → Turn (get_or near m 0) p k rest → get_or costs k 0 ≡ cost_at old k
+    cost_now k rest t = as_read costs e.are k t.router ∙ e.changed.yet k t.beyond
 
     -- a set of routers fits in 64 bits
     pub fell_fits : fell < 2 ^ 64
     fell_fits = made_fits (falls w old m) fell p e.made
 
     -- one router more
-    pub one_eased : (k : ℕ) → Turn (get_or near m 0) rest p k → (r : ℕ) (next : List ℕ)
+    pub one_eased : (k : ℕ) (rest : List ℕ) → Turn (get_or near m 0) p k rest → (r : ℕ) (next : List ℕ)
         → r ≡ pick (cheaper (get_or weights (64 * m + k) 0) (get_or old m 0) (get_or costs k 0)) (2 ^ k) 0
         → next
         ≡ pick (cheaper (get_or weights (64 * m + k) 0) (get_or old m 0) (get_or costs k 0)) (set costs k (get_or weights (64 * m + k) 0 + get_or old m 0)) costs
-        → Eased near weights m old next (fell + r) (bit_and rest (rest - 1)) (suc k)
-    one_eased k t r next q n = go (falls w old m k) refl
+        → Eased near weights m old next (fell + r) rest (suc k)
+    one_eased k rest t r next q n = go (falls w old m k) refl
       where
         v : ℕ
         v = get_or weights (64 * m + k) 0 + get_or old m 0
@@ -78,7 +76,7 @@ module _ (near weights : List ℕ) (m : ℕ) (old : List ℕ) where
         weight_now = weight_there near weights m k t.member
 
         test : cheaper (get_or weights (64 * m + k) 0) (get_or old m 0) (get_or costs k 0) ≡ falls w old m k
-        test = rw (weight_now, cost_now k t, as_read old e.were m e.from)
+        test = rw (weight_now, cost_now k rest t, as_read old e.were m e.from)
 
         value : v ≡ w m k + cost_at old m
         value = omega (arith, weight_now, as_read old e.were m e.from)
@@ -87,7 +85,7 @@ module _ (near weights : List ℕ) (m : ℕ) (old : List ℕ) where
         skip j l u = unlinked j (t.skipped j l u)
 
         build : (next : List ℕ) → AreCosts next → ((j : ℕ) → j ≢ k → cost_at next j ≡ cost_at costs j) → cost_at next k ≡ lowered w old m k
-            → Eased near weights m old next (fell + r) (bit_and rest (rest - 1)) (suc k)
+            → Eased near weights m old next (fell + r) rest (suc k)
         build next are same here = record {
           passed = t.passed;
           from = e.from;
@@ -97,7 +95,7 @@ module _ (near weights : List ℕ) (m : ℕ) (old : List ℕ) where
           made = one_made (falls w old m) fell p e.made k t.beyond t.router skip r (q ∙ ap (λ b. pick b (2 ^ k) 0) test);
         }
 
-        go : (b : Bool) → falls w old m k ≡ b → Eased near weights m old next (fell + r) (bit_and rest (rest - 1)) (suc k)
+        go : (b : Bool) → falls w old m k ≡ b → Eased near weights m old next (fell + r) rest (suc k)
         go true f =
             let c = test ∙ f in
             let s = cheaper_says (get_or weights (64 * m + k) 0) (get_or old m 0) (get_or costs k 0) c in
@@ -111,7 +109,7 @@ module _ (near weights : List ℕ) (m : ℕ) (old : List ℕ) where
             rw n' (build costs e.are (λ j i. refl) (e.changed.yet k t.beyond ∙ sym (pick_f _ _ _ f)))
 
     -- at the end no link is left
-    pub all_eased : rest ≡ 0 → (fell ≡ fallen w old m) × (costs ≡ eased w old m)
+    pub all_eased : left ≡ [] → (fell ≡ fallen w old m) × (costs ≡ eased w old m)
     unfolding fallen eased
     all_eased z = (
       all_made (falls w old m) fell p e.made over,
@@ -119,4 +117,4 @@ module _ (near weights : List ℕ) (m : ℕ) (old : List ℕ) where
     )
       where
         over : (j : ℕ) → p ≤ j → falls w old m j ≡ false
-        over j l = unlinked j (at_end (get_or near m 0) rest p e.passed z j l)
+        over j l = unlinked j (at_end (get_or near m 0) left p e.passed z j l)

@@ -16,7 +16,7 @@ use Rattle.rules.proofs.Basics.{neither, strong, value_at, length_values}
 use Rattle.rules.proofs.CostLaws.{Net}
 use Rattle.rules.proofs.Sets.{set_below, set_has, has_below}
 use Rattle.sets.proofs.Bits.{taken_out, others_stay, has_joined}
-use Rattle.sets.proofs.Members.{nobody, set_by}
+use Rattle.sets.proofs.ByMembers.{nobody, set_by}
 use Rattle.search.specs.Search.{as_cheap, costs_from, hops_over, sets_from, found_from, cost_at}
 use Rattle.search.specs.declared.Found.{Found}
 use Rattle.search.specs.Steps.{AreSets, IsNearest, falls, handed, eased, fallen, carried}

@@ -3,18 +3,17 @@
 use mathlib.Core.Path.{◌≡◌, sym, ◌∙◌, ap}
 use mathlib.Core.Logic.{◌≢◌}
 use mathlib.Core.Bool.{true, false≢true}
-use mathlib.Core.List.{List}
-use Prim.Native.Nat.{ℕ, suc, ◌+◌, ◌-◌, ◌*◌, ◌/◌, ◌%◌, ◌^◌, ◌≤◌, ◌<◌, min}
+use mathlib.Core.List.{List, [], ◌∷◌}
+use Prim.Native.Nat.{ℕ, suc, ◌+◌, ◌*◌, ◌/◌, ◌%◌, ◌^◌, ◌≤◌, ◌<◌, min}
 use native.Mathlib.Decide.{ℕ_discrete, dec_lt}
 use native.Mathlib.Omega.{arith}
-use lib.Bits.{bit_and}
 use lib.Count.{count_trailing_zeros}
 use lib.ListN.{get_or}
-use Rattle.rules.specs.NextHops.{has}
+use Rattle.rules.specs.NextHops.{has, members}
 use Rattle.rules.proofs.Sets.{member_below, trailing}
 use Rattle.sets.proofs.Walk.{Passed, Turn, setting_out, next_member, at_end}
-use Rattle.search.proofs.Arrays.{as_read}
-use Rattle.search.specs.Steps.{AreCosts, IsNearest}
+use Rattle.search.proofs.Arrays.{AreCosts, as_read}
+use Rattle.search.specs.Steps.{IsNearest}
 use Rattle.search.specs.Search.{cost_at}
 
 -- cost and number of a router as one number
@@ -22,26 +21,26 @@ abbrev pub key : List ℕ → ℕ → ℕ
 key costs k = get_or costs k 0 * 64 + k
 
 -- the walk has passed all below p: no member among them has a lower key than `least`, which is the key of a member, if of any router
-pub record Least (costs : List ℕ) (waiting rest least p : ℕ) : Type 0 where
-  pub passed : Passed waiting rest p
+pub record Least (costs : List ℕ) (waiting : ℕ) (left : List ℕ) (least p : ℕ) : Type 0 where
+  pub passed : Passed waiting left p
   pub low : (k : ℕ) → k < p → has waiting k ≡ true → least ≤ key costs k
   pub own : least < 18446744073709551615 → (has waiting (least % 64) ≡ true) × (least / 64 ≡ get_or costs (least % 64) 0)
 
-pub none_passed : (costs : List ℕ) (waiting : ℕ) → waiting < 2 ^ 64 → Least costs waiting waiting 18446744073709551615 0
-none_passed costs waiting b = record {
-  passed = setting_out waiting b;
+pub none_passed : (costs : List ℕ) (waiting : ℕ) (left : List ℕ) → waiting < 2 ^ 64 → left ≡ members waiting → Least costs waiting left 18446744073709551615 0
+none_passed costs waiting left b e = record {
+  passed = setting_out waiting left b e;
   low = λ k h e. absurd (omega arith);
   own = λ h. absurd (omega arith);
 }
 
-module _ (costs : List ℕ) (waiting rest least p : ℕ) (w : Least costs waiting rest least p) where
+module _ (costs : List ℕ) (waiting : ℕ) (left : List ℕ) (least p : ℕ) (w : Least costs waiting left least p) where
   -- the next member
-  pub next_key : rest ≢ 0 → Turn waiting rest p (count_trailing_zeros 64 rest)
-  next_key s = next_member waiting rest p w.passed s
+  pub next_key : (k : ℕ) (rest : List ℕ) → left ≡ k ∷ rest → Turn waiting p k rest
+  next_key k rest s = next_member waiting left p w.passed k rest s
 
   -- one member more
-  pub one_passed : (r k : ℕ) → r ≡ min least (key costs k) → Turn waiting rest p k → Least costs waiting (bit_and rest (rest - 1)) r (suc k)
-  one_passed r k e t = record {
+  pub one_passed : (r k : ℕ) (rest : List ℕ) → r ≡ min least (key costs k) → Turn waiting p k rest → Least costs waiting rest r (suc k)
+  one_passed r k rest e t = record {
     passed = t.passed;
     low = low;
     own = own (dec_lt (key costs k) least);
@@ -66,7 +65,7 @@ module _ (costs : List ℕ) (waiting rest least p : ℕ) (w : Least costs waitin
           rw q o
 
   -- at the end it is the nearest member's key
-  pub all_passed : AreCosts costs → waiting ≢ 0 → waiting < 2 ^ 64 → rest ≡ 0 → IsNearest costs waiting (least % 64)
+  pub all_passed : AreCosts costs → waiting ≢ 0 → waiting < 2 ^ 64 → left ≡ [] → IsNearest costs waiting (least % 64)
   all_passed a s b e = record { router = in_64; member = o.0; least = cheapest }
     where
       passed_all : (k : ℕ) → has waiting k ≡ true → least ≤ key costs k
@@ -74,7 +73,7 @@ module _ (costs : List ℕ) (waiting rest least p : ℕ) (w : Least costs waitin
         where
           go : Dec (k < p) → least ≤ key costs k
           go (yes l) = w.low k l m
-          go (no l) = absurd (false≢true (sym (at_end waiting rest p w.passed e k (omega arith)) ∙ m))
+          go (no l) = absurd (false≢true (sym (at_end waiting left p w.passed e k (omega arith)) ∙ m))
 
       some : has waiting (count_trailing_zeros 64 waiting) ≡ true
       some = (trailing 64 waiting (omega arith) b).0

@@ -21,11 +21,11 @@ use Rattle.rules.proofs.Basics.{any_default, neither, pick_t, pick_f, value_at, 
 use Rattle.rules.proofs.CostLaws.{Net}
 use Rattle.rules.proofs.LeastCost.{certified_is_best, best_turned, out_of_reach}
 use Rattle.rules.proofs.Sets.{set_below, set_has, has_below, trailing, member_below}
-use Rattle.sets.proofs.Members.{own_bit}
+use Rattle.sets.proofs.ByMembers.{own_bit}
 use Rattle.sets.proofs.Bits.{member_weight, others_stay, has_joined}
 use Rattle.search.specs.Search.{costs_from, cost_at}
-use Rattle.search.specs.Steps.{AreCosts, IsNearest, falls, lowered, eased, fallen}
-use Rattle.search.proofs.Arrays.{cost_top, cost_written, written_costs, no_costs_are, no_cost_at}
+use Rattle.search.specs.Steps.{IsNearest, falls, lowered, eased, fallen}
+use Rattle.search.proofs.Arrays.{AreCosts, cost_top, cost_written, written_costs, no_costs_are, no_cost_at}
 use Rattle.search.proofs.OneLink.{is_cheaper, cheaper_says}
 use Rattle.search.proofs.FirstHops.{turned_net}
 

@@ -2,16 +2,10 @@
 use Rattle.std.specs.Prelude.{◌≡◌, Bool, true, ◌&&◌, List, map, ℕ, ◌+◌, ◌^◌, ◌≤◌, ◌<◌, length, get_or}
 use Rattle.std.specs.Int.Bits.{bit_or}
 use Rattle.rules.specs.Words.{◌=?◌, ◌<?◌, pick, below}
-use Rattle.rules.specs.Costs.{no_cost}
 use Rattle.rules.specs.NextHops.{has, set_of}
 use Rattle.search.specs.Search.{cost_at, as_cheap}
 
--- what the type of the array says: 64 costs of 32 bits
-pub record AreCosts (costs : List ℕ) : Type 0 where
-  pub long : length costs ≡ 64
-  pub fit : (k : ℕ) → get_or costs k 0 ≤ no_cost
-
--- the same of an array of sets: 64 of 64 bits
+-- 64 sets of 64 bits
 pub record AreSets (sets : List ℕ) : Type 0 where
   pub long : length sets ≡ 64
   pub fit : (k : ℕ) → get_or sets k 0 < 2 ^ 64

@@ -1,4 +1,4 @@
 pub mod Bits
-pub mod Members
+pub mod ByMembers
 pub mod Walk
 pub mod Settled

@@ -1,9 +1,9 @@
--- A walk over the members of a set, from the lowest on: `while rest != 0`, with the lowest member of the rest taken out at each turn.
+-- A walk over the members of a set, from the lowest on: `for k in members(set)`.
 -- Assumes nothing.
 use mathlib.Core.Path.{◌≡◌, refl, sym, ◌∙◌, ap}
 use mathlib.Core.Logic.{◌≢◌}
-use mathlib.Core.Bool.{Bool, true, false, false≢true}
-use mathlib.Core.List.{List, map}
+use mathlib.Core.Bool.{Bool, true, false}
+use mathlib.Core.List.{List, [], ◌∷◌, ◌++◌, map, cons≢nil, head-eq_of_cons-eq, tail-eq_of_cons-eq}
 use Prim.Native.Nat.{ℕ, zero, suc, ◌+◌, ◌-◌, ◌^◌, ◌≤◌, ◌<◌}
 use native.Mathlib.Nat.{zero-add, lt_of_lt_of_le}
 use native.Mathlib.Decide.{ℕ_discrete, dec_lt}
@@ -11,90 +11,183 @@ use native.Mathlib.Omega.{arith}
 use lib.Bits.{bit_and}
 use lib.Count.{count_trailing_zeros}
 use lib.ListN.{length, get_or}
-use lib.Pow.{pow_mono, pow_pos}
+use lib.Pow.{pow_mono}
 use lib.Seq.{ext_get_or}
-use Rattle.rules.specs.Words.{pick, below}
-use Rattle.rules.specs.NextHops.{has, set_of}
-use Rattle.rules.proofs.Basics.{length_values, value_at}
-use Rattle.rules.proofs.Sets.{set_below, member_below, trailing}
+use Rattle.rules.specs.Words.{pick, those, below}
+use Rattle.rules.specs.NextHops.{has, members, set_of}
+use Rattle.rules.proofs.Basics.{length_values, value_at, those_more}
+use Rattle.rules.proofs.Sets.{set_below, has_below, trailing, member_below}
 use Rattle.sets.proofs.Bits.{lowest_out, taken_out, others_stay}
-use Rattle.sets.proofs.Members.{nobody}
 
--- the walk has passed all below p: from p on the rest has the set's members, and below p none
-pub record Passed (set rest p : ℕ) : Type 0 where
-  pub fits : rest < 2 ^ 64
-  pub later : (k : ℕ) → p ≤ k → has rest k ≡ has set k
-  pub gone : (k : ℕ) → k < p → has rest k ≡ false
+-- ---- the list of the members
 
-pub setting_out : (set : ℕ) → set < 2 ^ 64 → Passed set set 0
-setting_out set b = record { fits = b; later = λ k h. refl; gone = λ k h. absurd (omega arith) }
+-- those of p, p + 1, .. p + n − 1 that pass a test
+abbrev pub upward : (ℕ → Bool) → ℕ → ℕ → List ℕ
+upward q zero p = []
+upward q (suc n) p = pick (q p) (p ∷ upward q n (suc p)) (upward q n (suc p))
 
--- one turn: the next member k, and the rest without it
-pub record Turn (set rest p : ℕ) (k : ℕ) : Type 0 where
+upward_more : (q : ℕ → Bool) (n p : ℕ) → upward q (suc n) p ≡ upward q n p ++ pick (q (n + p)) ((n + p) ∷ []) []
+upward_more q zero p = rw (zero-add p) refl
+upward_more q (suc n) p =
+    let e : n + suc p ≡ suc n + p = omega arith in
+    let h : upward q (suc n) (suc p) ≡ upward q n (suc p) ++ pick (q (suc n + p)) ((suc n + p) ∷ []) [] = rw e at (upward_more q n (suc p)) in
+    go (q p) h
+  where
+    go : (t : Bool) → upward q (suc n) (suc p) ≡ upward q n (suc p) ++ pick (q (suc n + p)) ((suc n + p) ∷ []) []
+        → pick t (p ∷ upward q (suc n) (suc p)) (upward q (suc n) (suc p))
+        ≡ pick t (p ∷ upward q n (suc p)) (upward q n (suc p)) ++ pick (q (suc n + p)) ((suc n + p) ∷ []) []
+    go true h = ap (λ l. p ∷ l) h
+    go false h = h
+
+upward_those : (q : ℕ → Bool) (n : ℕ) → those q (below n) ≡ upward q n 0
+unfolding those below
+upward_those q zero = refl
+upward_those q (suc n) =
+    let e : n + 0 ≡ n = omega arith in
+    let m : upward q (suc n) 0 ≡ upward q n 0 ++ pick (q n) (n ∷ []) [] = rw e at (upward_more q n 0) in
+    those_more q n ∙ ap (λ l. l ++ pick (q n) (n ∷ []) []) (upward_those q n) ∙ sym m
+
+members_upward : (set : ℕ) → members set ≡ upward (has set) 64 0
+unfolding members
+members_upward set = upward_those (has set) 64
+
+pub no_members : members 0 ≡ []
+unfolding members those below has
+no_members = refl
+
+-- tests that agree from p on
+upward_same : (q r : ℕ → Bool) (n p : ℕ) → ((j : ℕ) → p ≤ j → r j ≡ q j) → upward r n p ≡ upward q n p
+upward_same q r zero p same = refl
+upward_same q r (suc n) p same = rw (same p (omega arith), upward_same q r n (suc p) (λ j l. same j (omega arith)))
+
+-- the lowest that passes q comes first, and a test that the others alone pass gives the others
+upward_first : (q r : ℕ → Bool) (n p k : ℕ) → p ≤ k → k < p + n → q k ≡ true → ((j : ℕ) → j < k → q j ≡ false)
+    → r k ≡ false → ((j : ℕ) → j ≢ k → r j ≡ q j) → upward q n p ≡ k ∷ upward r n p
+upward_first q r zero p k l m here lower gone same = absurd (omega arith)
+upward_first q r (suc n) p k l m here lower gone same =
+    go (ℕ_discrete k p) (λ b c. upward_first q r n (suc p) k b c here lower gone same)
+  where
+    go : Dec (k ≡ p) → (suc p ≤ k → k < suc p + n → upward q n (suc p) ≡ k ∷ upward r n (suc p)) → upward q (suc n) p ≡ k ∷ upward r (suc n) p
+    go (yes e) ih = rw (sym e, here, gone) (ap (λ t. k ∷ t) (sym (upward_same q r n (suc k) (λ j h. same j (omega arith)))))
+    go (no a) ih =
+        let f : q p ≡ false = lower p (omega arith) in
+        rw (same p (omega arith), f) (ih (omega arith) (omega arith))
+
+-- the lowest member, and the set without it
+pub lowest_first : (set : ℕ) → 0 < set → set < 2 ^ 64 → members set ≡ count_trailing_zeros 64 set ∷ members (bit_and set (set - 1))
+lowest_first set s b =
+    members_upward set
+    ∙ upward_first (has set) (has (bit_and set (set - 1))) 64 0 k (omega arith) (omega (arith, member_below set k b low.0)) low.0 lower gone same
+    ∙ ap (λ l. k ∷ l) (sym (members_upward (bit_and set (set - 1))))
+  where
+    k : ℕ
+    k = count_trailing_zeros 64 set
+
+    low : (has set k ≡ true) × ((j : ℕ) → has set j ≡ true → k ≤ j)
+    low = trailing 64 set s b
+
+    less : bit_and set (set - 1) ≡ set - 2 ^ k
+    less = omega (arith, lowest_out 64 set s b)
+
+    lower : (j : ℕ) → j < k → has set j ≡ false
+    lower j l = go (has set j) refl
+      where
+        go : (t : Bool) → has set j ≡ t → t ≡ false
+        go true e = absurd (omega (arith, low.1 j e))
+        go false e = refl
+
+    gone : has (bit_and set (set - 1)) k ≡ false
+    gone = ap (λ n. has n k) less ∙ taken_out k set low.0
+
+    same : (j : ℕ) → j ≢ k → has (bit_and set (set - 1)) j ≡ has set j
+    same j a = ap (λ n. has n j) less ∙ others_stay k set j low.0 a
+
+-- ---- the walk
+
+-- the walk has passed all below p, and these members are left
+pub record Passed (set : ℕ) (left : List ℕ) (p : ℕ) : Type 0 where
+  pub fits : set < 2 ^ 64
+  pub within : p ≤ 64
+  pub later : left ≡ upward (has set) (64 - p) p
+
+pub setting_out : (set : ℕ) (left : List ℕ) → set < 2 ^ 64 → left ≡ members set → Passed set left 0
+setting_out set left b e = record { fits = b; within = omega arith; later = e ∙ members_upward set }
+
+-- one turn: the next member k, and the rest behind it
+pub record Turn (set p k : ℕ) (rest : List ℕ) : Type 0 where
   pub beyond : p ≤ k
   pub router : k < 64
   pub member : has set k ≡ true
   pub skipped : (j : ℕ) → p ≤ j → j < k → has set j ≡ false
-  pub passed : Passed set (bit_and rest (rest - 1)) (suc k)
-  pub fewer : bit_and rest (rest - 1) < rest
+  pub passed : Passed set rest (suc k)
 
-module _ (set rest p : ℕ) (w : Passed set rest p) where
-  pub next_member : rest ≢ 0 → Turn set rest p (count_trailing_zeros 64 rest)
-  next_member s = record {
-    beyond = beyond;
-    router = member_below rest k w.fits low.0;
-    member = sym (w.later k beyond) ∙ low.0;
-    skipped = λ j h l. sym (w.later j h) ∙ not_lower j l;
-    passed = record {
-      fits = omega (arith, w.fits, fewer);
-      later = λ j h. others_out j (omega arith) ∙ w.later j (omega (arith, beyond));
-      gone = gone;
-    };
-    fewer = fewer;
-  }
-    where
-      k : ℕ
-      k = count_trailing_zeros 64 rest
+-- the first of those that pass
+record First (q : ℕ → Bool) (n p k : ℕ) (rest : List ℕ) : Type 0 where
+  beyond : p ≤ k
+  inside : k < n + p
+  passes : q k ≡ true
+  skipped : (j : ℕ) → p ≤ j → j < k → q j ≡ false
+  behind : rest ≡ upward q (n + p - suc k) (suc k)
 
-      low : (has rest k ≡ true) × ((j : ℕ) → has rest j ≡ true → k ≤ j)
-      low = trailing 64 rest (omega arith) w.fits
+first_upward : (q : ℕ → Bool) (n p k : ℕ) (rest : List ℕ) → upward q n p ≡ k ∷ rest → First q n p k rest
+first_upward q zero p k rest e = absurd (cons≢nil (sym e))
+first_upward q (suc n) p k rest e = go (q p) refl e (first_upward q n (suc p) k rest)
+  where
+    over : (j : ℕ) → p ≤ j → q p ≡ false → Dec (j ≡ p) → (suc p ≤ j → q j ≡ false) → q j ≡ false
+    over j l h (yes e) r = ap q e ∙ h
+    over j l h (no a) r = r (omega arith)
 
-      out : bit_and rest (rest - 1) + 2 ^ k ≡ rest
-      out = lowest_out 64 rest (omega arith) w.fits
+    go : (t : Bool) → q p ≡ t → pick t (p ∷ upward q n (suc p)) (upward q n (suc p)) ≡ k ∷ rest
+        → (upward q n (suc p) ≡ k ∷ rest → First q n (suc p) k rest) → First q (suc n) p k rest
+    go true h e ih =
+        let m : suc n + p - suc p ≡ n = omega arith in
+        rw (sym (head-eq_of_cons-eq e)) record {
+          beyond = omega arith;
+          inside = omega arith;
+          passes = h;
+          skipped = λ j a b. absurd (omega arith);
+          behind = rw m (sym (tail-eq_of_cons-eq e));
+        }
+    go false h e ih =
+        let f = ih e in
+        let m : n + suc p - suc k ≡ suc n + p - suc k = omega arith in record {
+          beyond = omega (arith, f.beyond);
+          inside = omega (arith, f.inside);
+          passes = f.passes;
+          skipped = λ j a b. over j a h (ℕ_discrete j p) (λ l. f.skipped j l b);
+          behind = rw m at f.behind;
+        }
 
-      fewer : bit_and rest (rest - 1) < rest
-      fewer = omega (arith, out, pow_pos k)
+-- none passes
+upward_none : (q : ℕ → Bool) (n p : ℕ) → upward q n p ≡ [] → (j : ℕ) → p ≤ j → j < n + p → q j ≡ false
+upward_none q zero p e j l m = absurd (omega arith)
+upward_none q (suc n) p e j l m = go (q p) refl e (λ f a. upward_none q n (suc p) f j a (omega arith)) (ℕ_discrete j p)
+  where
+    go : (t : Bool) → q p ≡ t → pick t (p ∷ upward q n (suc p)) (upward q n (suc p)) ≡ []
+        → (upward q n (suc p) ≡ [] → suc p ≤ j → q j ≡ false) → Dec (j ≡ p) → q j ≡ false
+    go true h e ih d = absurd (cons≢nil e)
+    go false h e ih (yes i) = ap q i ∙ h
+    go false h e ih (no a) = ih e (omega arith)
 
-      less : bit_and rest (rest - 1) ≡ rest - 2 ^ k
-      less = omega (arith, out)
-
-      others_out : (j : ℕ) → j ≢ k → has (bit_and rest (rest - 1)) j ≡ has rest j
-      others_out j a = ap (λ n. has n j) less ∙ others_stay k rest j low.0 a
-
-      not_lower : (j : ℕ) → j < k → has rest j ≡ false
-      not_lower j l = go (has rest j) refl
-        where
-          go : (t : Bool) → has rest j ≡ t → t ≡ false
-          go true e = absurd (omega (arith, low.1 j e))
-          go false e = refl
-
-      beyond : p ≤ k
-      beyond = go (dec_lt k p)
-        where
-          go : Dec (k < p) → p ≤ k
-          go (yes h) = absurd (false≢true (sym (w.gone k h) ∙ low.0))
-          go (no h) = omega arith
-
-      gone : (j : ℕ) → j < suc k → has (bit_and rest (rest - 1)) j ≡ false
-      gone j l = go (ℕ_discrete j k)
-        where
-          go : Dec (j ≡ k) → has (bit_and rest (rest - 1)) j ≡ false
-          go (yes e) = ap (λ n. has (bit_and rest (rest - 1)) n) e ∙ ap (λ n. has n k) less ∙ taken_out k rest low.0
-          go (no a) = others_out j a ∙ not_lower j (omega arith)
+module _ (set : ℕ) (left : List ℕ) (p : ℕ) (w : Passed set left p) where
+  pub next_member : (k : ℕ) (rest : List ℕ) → left ≡ k ∷ rest → Turn set p k rest
+  next_member k rest e =
+      let f = first_upward (has set) (64 - p) p k rest (sym w.later ∙ e) in
+      let m : 64 - p + p - suc k ≡ 64 - suc k = omega (arith, w.within) in record {
+        beyond = f.beyond;
+        router = omega (arith, w.within, f.inside);
+        member = f.passes;
+        skipped = f.skipped;
+        passed = record { fits = w.fits; within = omega (arith, w.within, f.inside); later = rw m at f.behind };
+      }
 
   -- at the end no member is left from p on
-  pub at_end : rest ≡ 0 → (k : ℕ) → p ≤ k → has set k ≡ false
-  at_end e k h = sym (w.later k h) ∙ ap (λ n. has n k) e ∙ nobody k
+  pub at_end : left ≡ [] → (k : ℕ) → p ≤ k → has set k ≡ false
+  at_end e k h = go (dec_lt k 64)
+    where
+      go : Dec (k < 64) → has set k ≡ false
+      go (yes l) = upward_none (has set) (64 - p) p (sym w.later ∙ e) k h (omega (arith, w.within))
+      go (no l) = has_below set 64 k w.fits (omega arith)
 
 -- a set that is made on the way: routers that are passed over add nothing
 pub passed_over : (q : ℕ → Bool) (p n : ℕ) → p ≤ n → ((j : ℕ) → p ≤ j → j < n → q j ≡ false) → set_of q n ≡ set_of q p

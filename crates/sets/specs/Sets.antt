@@ -1,6 +1,6 @@
 -- What each function of this crate promises of sets of routers as 64-bit numbers.
 use Rattle.std.specs.Prelude.{◌≡◌, Bool, List, ℕ, replicate}
-use Rattle.rules.specs.NextHops.{has, chosen, size}
+use Rattle.rules.specs.NextHops.{has, members, chosen, size}
 
 -- 64 empty sets
 abbrev pub NoSets : List ℕ → Type 0
@@ -17,3 +17,7 @@ Chooses set r = r ≡ chosen set
 -- how many members the set has
 abbrev pub Counts : ℕ → ℕ → Type 0
 Counts set r = r ≡ size set
+
+-- the members, lowest first
+abbrev pub GivesMembers : ℕ → List ℕ → Type 0
+GivesMembers set r = r ≡ members set

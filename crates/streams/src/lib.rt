@@ -1,4 +1,5 @@
 // Reading and writing with what an error leaves, of which std's `write_all` and `read_exact` say nothing.
+// What is done is counted in both: two wrong versions take the last count for all of it, which parts of a slice could not say.
 #![tactic(auto)]
 
 ghost use Rattle.std.specs.Io.KnownBytes.{Appends, Consumes, IsAtEnd};

@@ -1,32 +1,33 @@
 -- What the reading question answers, from what judging tells; and what its answer tells of the bytes.
 -- Assumes nothing.
 use mathlib.Core.Path.{◌≡◌, refl, sym, ◌∙◌, ap, ap₂, subst}
-use mathlib.Core.Logic.{◌≢◌}
 use mathlib.Core.List.{List, [], ◌∷◌}
 use Prim.Native.Nat.{ℕ, ◌+◌, ◌-◌, ◌*◌, ◌≤◌, ◌<◌}
 use native.Mathlib.Omega.{arith}
 use lib.ListN.{length}
 use borrow.Author.Tests.{lt-ltb, le-ltb}
+use Rattle.std.specs.Prelude.{Ok, Err}
 use Rattle.rules.specs.Layout.{Table, Bytes}
-use Rattle.rules.specs.Table.{Record, Judged, accepted, refused, judge, nothing_behind, read, number_of, place_of, records_of, table_of, says}
+use Rattle.rules.specs.Table.{Record, Judged, accepted, refused, judge, nothing_behind, read, number_of as number_in, place_of, records_of, table_of, says}
 use Rattle.rules.specs.Demand1.{IsAccepted}
-use Rattle.rules.specs.Answers.{answered, refused_with}
+use Rattle.rules.specs.Answers.{answered, refused_with, of_table}
 use Rattle.rules.specs.ReadQuestion.{Reading, no_reading, reading, read_answer}
 use Rattle.rules.proofs.Acceptance.{obeys}
 use Rattle.rules.proofs.Basics.{pick_t, pick_f}
 use Rattle.rules.proofs.Judging.{judge_judges}
 use Rattle.rules.proofs.Answers.{table_bad, number_answers}
-use Rattle.rules.proofs.Refusals.{By-1-to-7, judged_by, table_refusals}
+use Rattle.rules.proofs.Refusals.{judged_by}
 use Rattle.rules.proofs.ReadQuestion.{read_proved}
-use Rattle.tables.specs.Readings.{judged_numbers, judging_answer, Numbered, JudgedTo, links_place, links_start, reading_numbers, outline_of, Reads}
+use Rattle.refusals.specs.declared.Refusal.{Refusal}
+use Rattle.refusals.specs.declared.Which.{Which}
+use Rattle.refusals.specs.declared.Which.TheVariants.{Old, New}
+use Rattle.refusals.specs.declared.Reason.TheVariants.{BytesBehind}
+use Rattle.refusals.specs.Refusals.{number_of, table_number, refusal_told, refused_at, answer_told}
+use Rattle.refusals.proofs.Told.{some_number}
+use Rattle.tables.specs.Readings.{judged_numbers, judging_answer, JudgedTo, links_place, links_start, reading_numbers, outline_of, Reads}
 use Rattle.tables.specs.declared.Judged.{Judged as JudgedHere}
-use Rattle.tables.specs.declared.Judged.TheVariants as here
 use Rattle.tables.specs.declared.Outline.{Outline}
-use Rattle.tables.specs.declared.Reading.{Reading as ReadingHere}
-use Rattle.tables.specs.declared.Reading.TheVariants.{Accepted, Refused}
 use Rattle.tables.proofs.Places.{judged_ends}
-use Rattle.tables.proofs.Turns.{judged_of}
-use Rattle.tables.proofs.Settled.{judge_settled}
 
 -- ---- the reading question, from what judging tells
 
@@ -34,110 +35,99 @@ module _ (bytes : List ℕ) where
   abbrev values : Reading
   values = reading (says bytes)
 
-  -- what judging answers is the case for what is judged
-  judged_so : JudgedTo bytes (judged_of (judge bytes))
-  unfolding judged_of judged_numbers judging_answer
-  judged_so = go (judge bytes) (judged_by (judge_judges bytes))
-    where
-      go : (j : Judged) → By-1-to-7 j → (judged_numbers (judged_of j) ≡ judging_answer j) × Numbered (judged_of j)
-      go (accepted rs end) h = (refl, tt)
-      go (refused number place) h = (refl, omega arith)
-
-  pub judged_as : (r : JudgedHere) → r ≡ judged_of (judge bytes) → JudgedTo bytes r
-  judged_as r e = subst (JudgedTo bytes) (sym e) judged_so
-
-  pub told_so : (r : JudgedHere) → JudgedTo bytes r → judged_of (judge bytes) ≡ r
-  told_so r p = judge_settled bytes (judged_of (judge bytes)) r judged_so p
-
   -- what is read decides
-  refused_reads : Bytes bytes → (number place : ℕ) → read bytes ≡ refused number place → Reads bytes (Refused number place)
-  unfolding reading_numbers read_answer
-  refused_reads b number place e = (sym (table_bad no_reading values 0 bytes [] number place (ap number_of e) (ap place_of e) n), n, b)
-    where
-      n : number ≢ 0
-      n z = omega (arith, z, table_refusals bytes number place e)
+  refused_reads : Bytes bytes → (r : Refusal) → r.table ≡ Old → read bytes ≡ refused (number_of r.reason) r.place → Reads bytes (Err r)
+  unfolding answer_told read_answer
+  refused_reads b r o e = (
+    ap (λ (which : Which). refused_with no_reading (number_of r.reason) (table_number which) r.place) o
+        ∙ sym (table_bad no_reading values 0 bytes [] _ _ (ap number_in e) (ap place_of e) (some_number r.reason)),
+    tt,
+    b,
+  )
 
   accepted_reads : Bytes bytes → (rs : List Record) (end : ℕ) → read bytes ≡ accepted rs end
-      → Reads bytes (Accepted (record { routers = (table_of rs).routers; links = length (table_of rs).links; start = links_place rs }))
-  unfolding reading_numbers read_answer says links_start
+      → Reads bytes (Ok (record { routers = (table_of rs).routers; links = length (table_of rs).links; start = links_place rs }))
+  unfolding answer_told read_answer says links_start
   accepted_reads b rs end e =
       let t = ap (λ j. table_of (records_of j)) e in (
-        sym (number_answers no_reading values (bytes ∷ []) [] (ap number_of e, tt) 0 refl refl
+        sym (number_answers no_reading values (bytes ∷ []) [] (ap number_in e, tt) 0 refl refl
             ∙ ap (λ (t : Table). answered (reading t)) t),
         sym (ap₂ (λ (t : Table) (start : ℕ). record { routers = t.routers; links = length t.links; start = start }) t (ap (λ j. links_place (records_of j)) e)),
         b,
       )
 
   -- judging refuses, and so does reading
-  pub refused_told : Bytes bytes → (number place : ℕ) → judged_of (judge bytes) ≡ here.Refused number place → Reads bytes (Refused number place)
-  unfolding judged_of read
-  refused_told b number place = go (judge bytes) refl
+  pub refused_told : Bytes bytes → (r : Refusal) → JudgedTo bytes (Err r) → Reads bytes (Err r)
+  unfolding answer_told judging_answer read
+  refused_told b r = go (judge bytes) refl
     where
-      go : (j : Judged) → judge bytes ≡ j → judged_of j ≡ here.Refused number place → Reads bytes (Refused number place)
-      go (refused n p) e q = refused_reads b number place (ap (nothing_behind (length bytes)) e ∙ same)
+      go : (j : Judged) → judge bytes ≡ j → judged_numbers (Err r) ≡ judging_answer j → Reads bytes (Err r)
+      go (refused n p) e q = refused_reads b r (which r.table (ap (λ a. a.refusal.table) q)) (ap (nothing_behind (length bytes)) e ∙ same)
         where
-          same : refused n p ≡ refused number place
-          same = let a : n ≡ number = cc in let b : p ≡ place = cc in rw (a, b)
-      go (accepted rs end) e q = let z : ◌≡◌ {A = ℕ} 0 1 = cc in absurd (omega arith)
+          which : (w : Which) → table_number w ≡ 0 → w ≡ Old
+          which Old e = refl
+          which New e = absurd (omega arith)
+
+          same : refused n p ≡ refused (number_of r.reason) r.place
+          same = sym (ap (λ a. refused a.refusal.number a.refusal.place) q)
+      go (accepted rs end) e q = absurd (some_number r.reason (ap (λ a. a.refusal.number) q))
 
   -- what an accepted table's end tells
-  pub record Ended (routers links end : ℕ) : Type 0 where
-    pub room : links * 7 + 3 ≤ end
-    pub behind : end < length bytes → Reads bytes (Refused 7 end)
-    pub whole : length bytes ≤ end → Reads bytes (Accepted (record { routers = routers; links = links; start = end - 3 - links * 7 }))
+  pub record Ended (j : JudgedHere) : Type 0 where
+    pub room : j.links * 7 + 3 ≤ j.end
+    pub behind : j.end < length bytes → Reads bytes (Err (refused_at BytesBehind j.end))
+    pub whole : length bytes ≤ j.end → Reads bytes (Ok (record { routers = j.routers; links = j.links; start = j.end - 3 - j.links * 7 }))
 
-  pub accepted_told : Bytes bytes → (routers links end : ℕ) → judged_of (judge bytes) ≡ here.Accepted routers links end → Ended routers links end
-  unfolding judged_of read
-  accepted_told b routers links end = go (judge bytes) refl
+  pub accepted_told : Bytes bytes → (j : JudgedHere) → JudgedTo bytes (Ok j) → Ended j
+  unfolding answer_told judging_answer read
+  accepted_told b t = go (judge bytes) refl
     where
-      go : (j : Judged) → judge bytes ≡ j → judged_of j ≡ here.Accepted routers links end → Ended routers links end
-      go (refused n p) e q = let z : ◌≡◌ {A = ℕ} 0 1 = cc in absurd (omega arith)
+      go : (j : Judged) → judge bytes ≡ j → judged_numbers (Ok t) ≡ judging_answer j → Ended t
+      go (refused n p) e q = let z = ap (λ a. a.refusal.number) q in absurd (omega (arith, rw e at (judged_by (judge_judges bytes))))
       go (accepted rs at) e q = record {
         room = omega (arith, ends, c, l);
-        behind = λ h. refused_reads b 7 end (ap (nothing_behind (length bytes)) e ∙ pick_t _ _ _ (lt-ltb at (length bytes) (omega (arith, c))) ∙ ap (λ n. refused 7 n) c);
+        behind = λ h.
+            refused_reads b (refused_at BytesBehind t.end) refl
+            (ap (nothing_behind (length bytes)) e ∙ pick_t _ _ _ (lt-ltb at (length bytes) (omega (arith, c))) ∙ ap (λ n. refused 7 n) (sym c));
         whole = λ h.
-            subst (Reads bytes)
-            (same a l (omega (arith, ends, c, l)))
+            subst (λ (t : Outline). Reads bytes (Ok t))
+            (same (sym a) (sym l) (omega (arith, ends, c, l)))
             (accepted_reads b rs at (ap (nothing_behind (length bytes)) e ∙ pick_f _ _ _ (le-ltb at (length bytes) (omega (arith, c)))));
       }
         where
-          a : (table_of rs).routers ≡ routers
-          a = cc
+          a : t.routers ≡ (table_of rs).routers
+          a = ap (λ a. a.values.routers) q
 
-          l : length (table_of rs).links ≡ links
-          l = cc
+          l : t.links ≡ length (table_of rs).links
+          l = ap (λ a. a.values.links) q
 
-          c : at ≡ end
-          c = cc
+          c : t.end ≡ at
+          c = ap (λ a. a.values.end) q
 
           ends : links_place rs + 7 * length (table_of rs).links + 3 ≡ at
           ends = judged_ends bytes rs at e
 
           same : {a b c x y z : ℕ} → a ≡ x → b ≡ y → c ≡ z
-              → Accepted (record { routers = a; links = b; start = c }) ≡ Accepted (record { routers = x; links = y; start = z })
+              → ◌≡◌ {A = Outline} (record { routers = a; links = b; start = c }) (record { routers = x; links = y; start = z })
           same p q r = rw (p, q, r)
 
   -- ---- what a reading tells of the bytes
 
   -- the answer by cases
-  pub reading_accepted : (r : ReadingHere) (t : Outline) → Reads bytes r → r ≡ Accepted t → IsAccepted bytes × (t ≡ outline_of bytes)
-  unfolding reading_numbers
-  reading_accepted r t p e = (((read_proved bytes).exactly.asked.0 (sym (ap (λ a. a.refusal.number) q.0))).0, q.1)
-    where
-      q : Reads bytes (Accepted t)
-      q = subst (Reads bytes) e p
+  pub reading_accepted : (t : Outline) → Reads bytes (Ok t) → IsAccepted bytes × (t ≡ outline_of bytes)
+  unfolding answer_told
+  reading_accepted t p = (((read_proved bytes).exactly.asked.0 (sym (ap (λ a. a.refusal.number) p.0))).0, p.1)
 
-  pub reading_refused : (r : ReadingHere) (number place : ℕ) → Reads bytes r → r ≡ Refused number place
-      → (number_of (read bytes) ≡ number) × (place_of (read bytes) ≡ place) × (number ≢ 0)
-  unfolding reading_numbers
-  reading_refused r number place p e = (sym (ap (λ a. a.refusal.number) own), sym (ap (λ a. a.refusal.place) own), q.1)
+  pub reading_refused : (r : Refusal) → Reads bytes (Err r) → (¬ IsAccepted bytes) × (refusal_told r ≡ of_table 0 bytes)
+  unfolding answer_told
+  reading_refused r p = (bad, ap (λ a. a.refusal) own)
     where
-      q : Reads bytes (Refused number place)
-      q = subst (Reads bytes) e p
+      bad : ¬ IsAccepted bytes
+      bad a = some_number r.reason (ap (λ a. a.refusal.number) p.0 ∙ (read_proved bytes).exactly.asked.1 (a, tt))
 
       -- the question's refusal is the table's
-      own : reading_numbers (Refused number place) ≡ refused_with no_reading (number_of (read bytes)) 0 (place_of (read bytes))
-      own = q.0 ∙ (read_proved bytes).exactly.in_order.0 (λ a. q.1 (ap (λ a. a.refusal.number) q.0 ∙ (read_proved bytes).exactly.asked.1 (a, tt)))
+      own : reading_numbers (Err r) ≡ refused_with no_reading (number_in (read bytes)) 0 (place_of (read bytes))
+      own = p.0 ∙ (read_proved bytes).exactly.in_order.0 bad
 
   -- the outline's routers are the table's, from 1 to 64
   pub own_routers : (t : Outline) → t ≡ outline_of bytes → t.routers ≡ (says bytes).routers

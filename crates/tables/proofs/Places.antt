@@ -7,14 +7,14 @@ use Prim.Native.Nat.{ℕ, ◌+◌, ◌*◌, ◌≤◌, ◌<◌}
 use native.Mathlib.Decide.{ℕ_discrete}
 use native.Mathlib.Omega.{arith}
 use lib.ListN.{length, length-append}
-use borrow.Author.Tests.{eqb-true, le-ltb, lt-ltb, ne_eqb, eq-eqb}
+use borrow.Author.Tests.{le-ltb, lt-ltb, ne_eqb, eq-eqb}
 use Rattle.rules.specs.Words.{those}
 use Rattle.rules.specs.Layout.{tag_link, tag_end, record_bytes}
 use Rattle.rules.specs.Table.{Record, link_of, Kept, accepted, judge, table_of}
 use Rattle.rules.proofs.Records.{at_most_link, tag_order, record_at, Fine}
 use Rattle.rules.proofs.Chains.{Chain, last, next, bytes_of, judged_chain}
 use Rattle.tables.specs.Readings.{links_place}
-use Rattle.records.proofs.Tests.{link_long, length_end}
+use Rattle.records.proofs.Tests.{link_long, end_long}
 
 -- the links start where the first record behind those of lower tags stands
 pub links_here : (r : Record) (rs : List Record) → tag_link ≤ r.tag → links_place (r ∷ rs) ≡ r.place
@@ -58,7 +58,7 @@ ends (last {place = place} {tag = tag} {contents = c} e f) =
       links_here r [] (omega arith),
       ap length (same_links r [] (omega arith) ∙ no_links),
       length-append c [],
-      eqb-true (length c) 0 (length_end tag (length c) e ∙ f.passes.sized),
+      end_long tag (length c) f.passes.sized e,
     )
 ends {kept = kept} (next {place = place} {tag = tag} {contents = c} {rs = rs} l e f n) =
     let r = record_at place tag c in

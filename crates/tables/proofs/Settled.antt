@@ -1,45 +1,41 @@
 -- Each promise of this crate allows one answer: each case is had again from its numbers.
 -- Assumes nothing.
-use mathlib.Core.Path.{◌≡◌, refl, sym, ap}
+use mathlib.Core.Path.{◌≡◌, refl, sym, ◌∙◌, ap, ap₂}
 use mathlib.Core.List.{List}
 use Prim.Native.Nat.{ℕ}
-use Rattle.rules.specs.Words.{◌=?◌, pick}
-use Rattle.rules.specs.Answers.{Answer}
-use Rattle.rules.specs.ReadQuestion.{Reading}
+use denote.Ref.{Bor}
+use Rattle.std.specs.Prelude.{Result, Ok, Err}
+use Rattle.rules.specs.ReadQuestion.{no_reading}
 use Rattle.rules.specs.Promises.{Settles}
-use Rattle.rules.proofs.Uniqueness.{numbers_settle, refused_again}
-use Rattle.tables.specs.Readings.{Judging, judged_numbers, Numbered, JudgedTo, reading_numbers, outline_of, Outlined, Reads}
-use Rattle.tables.specs.declared.Judged.{Judged as JudgedHere}
-use Rattle.tables.specs.declared.Judged.TheVariants as judged
-use Rattle.tables.specs.declared.Reading.{Reading as ReadingHere}
-use Rattle.tables.specs.declared.Reading.TheVariants.{Accepted, Refused}
-
--- ---- judging; a refusal has a number
-
-judged_from : Answer Judging → JudgedHere
-judged_from a =
-    pick (a.refusal.number =? 0)
-    (judged.Accepted a.values.routers a.values.links a.values.end)
-    (judged.Refused a.refusal.number a.refusal.place)
-
-judged_again : (x : JudgedHere) → Numbered x → judged_from (judged_numbers x) ≡ x
-unfolding judged_from judged_numbers
-judged_again (judged.Accepted routers links end) own = refl
-judged_again (judged.Refused number place) own = refused_again _ _ _ own
+use Rattle.refusals.specs.declared.Refusal.{Refusal}
+use Rattle.refusals.proofs.Told.{told_apart}
+use Rattle.refusals.proofs.Settled.{answer_settled, numbers_settled}
+use Rattle.tables.specs.Readings.{nothing_judged, JudgedTo, outline_of, Reads}
+use Rattle.tables.specs.Accepted.{Accepts}
+use Rattle.tables.specs.declared.Outline.{Outline}
+use Rattle.tables.specs.declared.accepted.Table.{Table}
+use Rattle.tables.proofs.OnTables.{is_accepted, own_outline}
 
 pub judge_settled : (bytes : List ℕ) → Settles (JudgedTo bytes)
-judge_settled bytes = numbers_settle _ _ judged_numbers Numbered judged_from judged_again _
+judge_settled bytes = numbers_settled nothing_judged _ (λ j. record { routers = j.routers; links = j.links; end = j.end }) (λ x. refl) _
 
--- ---- reading; an accepted table has its own outline
+-- an accepted table has its own outline
+pub read_settled : (bytes : List ℕ) → Settles (Reads bytes)
+read_settled bytes x y p q =
+    answer_settled no_reading _ (λ t. t ≡ outline_of bytes) (λ n. outline_of bytes) (λ t own. sym own) _ x y (p.0, p.1) (q.0, q.1)
 
-module _ (bytes : List ℕ) where
-  reading_from : Answer Reading → ReadingHere
-  reading_from a = pick (a.refusal.number =? 0) (Accepted (outline_of bytes)) (Refused a.refusal.number a.refusal.place)
+-- of an accepted table its bytes and its outline are seen; that they fit each other it has besides
+abbrev pub seen : Result Table Refusal → Result (Bor (List ℕ) × Outline) Refusal
+seen (Ok t) = Ok (t.bytes, t.outline)
+seen (Err r) = Err r
 
-  reading_again : (x : ReadingHere) → Outlined bytes x → reading_from (reading_numbers x) ≡ x
-  unfolding reading_from reading_numbers
-  reading_again (Accepted t) own = ap Accepted (sym own)
-  reading_again (Refused number place) own = refused_again _ _ _ own
+module _ (bytes : Bor (List ℕ)) where
+  seen_same : (r s : Result Table Refusal) → Accepts bytes r → Accepts bytes s → seen r ≡ seen s
+  seen_same (Ok t) (Ok u) p q =
+      ap₂ (λ (b : Bor (List ℕ)) (o : Outline). Ok (b, o)) (p ∙ sym q) (own_outline bytes t p ∙ sym (own_outline bytes u q))
+  seen_same (Ok t) (Err s) p q = absurd (q.0 (is_accepted bytes t p))
+  seen_same (Err r) (Ok u) p q = absurd (p.0 (is_accepted bytes u q))
+  seen_same (Err r) (Err s) p q = ap Err (told_apart r s (p.1 ∙ sym q.1))
 
-  pub read_settled : Settles (Reads bytes)
-  read_settled x y p q = numbers_settle _ _ reading_numbers (Outlined bytes) reading_from reading_again _ x y (p.0, p.1) (q.0, q.1)
+  pub accept_settled : Settles (λ (said : Result (Bor (List ℕ) × Outline) Refusal). (r : Result Table Refusal) × Accepts bytes r × (said ≡ seen r))
+  accept_settled x y (r, p, e) (s, q, f) = e ∙ seen_same r s p q ∙ sym f

@@ -1,4 +1,4 @@
--- Judging, one record at a time: what is kept behind a record, and what a turn of judging gives, for a record that stands at a place of a table.
+-- Judging, one record at a time: what a turn of judging gives, for a record that stands at a place of a table.
 -- Assumes nothing.
 use mathlib.Core.Path.{◌≡◌, refl, sym, ◌∙◌, ap, ap₂}
 use mathlib.Core.Logic.{◌≢◌}
@@ -12,9 +12,11 @@ use native.Mathlib.Nat.{add-zero}
 use lib.Dec.{eqb, leb}
 use lib.ListN.{length, drop, length-drop}
 use borrow.Author.Tests.{leb-false, eq-eqb, ne_eqb}
+use Rattle.std.specs.Prelude.{Ok, Err}
 use Rattle.rules.specs.Words.{pick, those}
 use Rattle.rules.specs.Layout.{tag_routers, tag_link, tag_end}
-use Rattle.rules.specs.Table.{byte, Record, key, Kept, nothing_kept, keep, length_allowed, too_many, record_in, Step, good, step, Judged, accepted, refused, followed_by, judge_from, judge, routers_of, table_of}
+use Rattle.rules.specs.Table.{byte, Record, Kept, nothing_kept, keep, length_allowed, too_many, record_in, Step, good, step, Judged, accepted, refused, followed_by, judge_from, judge, routers_of, table_of}
+use Rattle.rules.specs.Answers.{Answer, answered, refused_with}
 use Rattle.rules.proofs.Basics.{pick_t, pick_f}
 use Rattle.rules.proofs.Judging.{size_in, contents_in, Good, Steps, gives, refuses, steps, Judges, stops, ends, goes, judges, judged, judge_stops, judge_ends, judge_goes, judge_judges}
 use Rattle.rules.proofs.AtPlace.{left_behind, whole_there}
@@ -22,28 +24,10 @@ use Rattle.rules.proofs.Records.{tag_order, length_contents}
 use Rattle.records.specs.Steps.{record_from, step_of}
 use Rattle.records.specs.declared.Step.{Step as StepHere}
 use Rattle.records.specs.declared.Step.TheVariants as here
-use Rattle.tables.specs.Readings.{record_with, refusal_in}
-use Rattle.tables.specs.declared.Judged.{Judged as JudgedHere}
-use Rattle.tables.specs.declared.Judged.TheVariants.{Accepted, Refused}
+use Rattle.refusals.specs.declared.Refusal.{Refusal}
+use Rattle.refusals.specs.Refusals.{number_of, answer_told}
+use Rattle.tables.specs.Readings.{Judging, nothing_judged, judging_answer, judged_numbers, record_with, GivesRefusal}
 use Rattle.tables.proofs.Places.{no_links, more_links, same_links}
-
--- ---- what is kept behind a record
-
-module _ (kept : Kept) (tag : ℕ) (contents : List ℕ) (last : ℕ) (k : last ≡ key tag contents) where
-  pub kept_link : tag ≡ tag_link
-      → record { routers = kept.routers; tag = tag; last = last; links = kept.links + 1 } ≡ keep kept (record_with tag contents)
-  unfolding keep
-  kept_link e = rw (k, e)
-
-  pub kept_routers : tag ≡ tag_routers
-      → record { routers = byte contents 0; tag = tag; last = last; links = kept.links } ≡ keep kept (record_with tag contents)
-  unfolding keep
-  kept_routers e = rw (k, e, add-zero)
-
-  pub kept_else : tag ≢ tag_link → tag ≢ tag_routers
-      → record { routers = kept.routers; tag = tag; last = last; links = kept.links } ≡ keep kept (record_with tag contents)
-  unfolding keep
-  kept_else l r = rw (ne_eqb tag tag_link l, ne_eqb tag tag_routers r, k, add-zero)
 
 -- ---- what judging tells, by what is kept at the end
 
@@ -53,14 +37,9 @@ kept_after kept [] = kept
 kept_after kept (r ∷ rs) = kept_after (keep kept r) rs
 
 -- what judging the bytes that remain tells of the whole
-pub told : Kept → Judged → JudgedHere
-told kept (accepted rs end) = Accepted (kept_after kept rs).routers (kept_after kept rs).links end
-told kept (refused number place) = Refused number place
-
--- the case for what is judged
-unfoldable pub judged_of : Judged → JudgedHere
-judged_of (accepted rs end) = Accepted (table_of rs).routers (length (table_of rs).links) end
-judged_of (refused number place) = Refused number place
+pub told : Kept → Judged → Answer Judging
+told kept (accepted rs end) = let k = kept_after kept rs in answered (record { routers = k.routers; links = k.links; end = end })
+told kept (refused number place) = refused_with nothing_judged number 0 place
 
 -- one more for each link
 links_kept : (kept : Kept) (rs : List Record) → (kept_after kept rs).links ≡ kept.links + length (table_of rs).links
@@ -92,8 +71,8 @@ routers_stay {kept} {place} {left} (goes {j = j} g e r) h =
     go (refused number at) s = tt
 
 -- what is kept at the end is what the table says
-first_told : {bytes : List ℕ} {j : Judged} → Judges nothing_kept 0 bytes j → told nothing_kept j ≡ judged_of j
-unfolding told judged_of kept_after keep table_of routers_of those
+first_told : {bytes : List ℕ} {j : Judged} → Judges nothing_kept 0 bytes j → told nothing_kept j ≡ judging_answer j
+unfolding told judging_answer kept_after keep table_of routers_of those
 first_told (stops q a b) = refl
 first_told {bytes} (ends g e) = absurd (omega (arith, (tag_order nothing_kept (byte bytes 0) g.tagged).first_routers refl))
 first_told {bytes} (goes {j = j} g e r) = go j (routers_stay r (omega (arith, first)))
@@ -102,18 +81,18 @@ first_told {bytes} (goes {j = j} g e r) = go j (routers_stay r (omega (arith, fi
     first = (tag_order nothing_kept (byte bytes 0) g.tagged).first_routers refl
 
     go : (j : Judged) → Stays (keep nothing_kept (record_in 0 bytes)) j
-        → told nothing_kept (followed_by (record_in 0 bytes) j) ≡ judged_of (followed_by (record_in 0 bytes) j)
+        → told nothing_kept (followed_by (record_in 0 bytes) j) ≡ judging_answer (followed_by (record_in 0 bytes) j)
     go (refused number at) s = refl
     go (accepted rs end) s =
-        ap₂ (λ n k. Accepted n k end)
+        ap₂ (λ n k. answered (record { routers = n; links = k; end = end }))
         (s ∙ pick_t (eqb (byte bytes 0) tag_routers) (byte (contents_in bytes) 0) 0 (eq-eqb (byte bytes 0) tag_routers first))
         (links_kept nothing_kept (record_in 0 bytes ∷ rs) ∙ add.zero (length (table_of (record_in 0 bytes ∷ rs)).links))
 
 -- what judging from a place on tells of the whole; the bound is one more than the bytes that remain
-pub told_from : List ℕ → ℕ → Kept → JudgedHere
+pub told_from : List ℕ → ℕ → Kept → Answer Judging
 told_from bytes place kept = told kept (judge_from (suc (length (drop place bytes))) kept place (drop place bytes))
 
-pub told_first : (bytes : List ℕ) → told_from bytes 0 nothing_kept ≡ judged_of (judge bytes)
+pub told_first : (bytes : List ℕ) → told_from bytes 0 nothing_kept ≡ judging_answer (judge bytes)
 unfolding told_from judge
 told_first bytes = first_told (judge_judges bytes)
 
@@ -146,10 +125,11 @@ module _ (bytes : List ℕ) (place : ℕ) (kept : Kept) where
   -- ---- a turn of judging
 
   -- the step refuses, and so does judging
-  pub told_refused : (s : StepHere) → ((tag end : ℕ) → s ≢ here.Record tag end) → step_of bytes place s ≡ step kept place left → refusal_in s ≡ told_from bytes place kept
-  unfolding step_of told_from told refusal_in
-  told_refused (here.Record tag end) t e = absurd (t tag end refl)
-  told_refused (here.Refused number at) t e = sym (ap (told kept) (judge_stops (length left) kept place number at left (sym e)))
+  pub told_refused : (s : StepHere) (r : Refusal) → GivesRefusal s r → step_of bytes place s ≡ step kept place left → judged_numbers (Err r) ≡ told_from bytes place kept
+  unfolding step_of told_from told answer_told
+  told_refused (here.Record tag end) r i e = absurd i
+  told_refused (here.Refused reason at) r i e =
+      ap (λ (r : Refusal). judged_numbers (Err r)) i ∙ sym (ap (told kept) (judge_stops (length left) kept place (number_of reason) at left (sym e)))
 
   module _ (tag end : ℕ) (f : Found bytes place kept tag end) where
     pub found_inside : (place + 3 ≤ end) × (end ≤ length bytes)
@@ -173,8 +153,8 @@ module _ (bytes : List ℕ) (place : ℕ) (kept : Kept) where
         go false e = omega arith
 
     -- the end record: what is kept is told
-    pub told_ended : tag ≡ tag_end → Accepted kept.routers kept.links end ≡ told_from bytes place kept
-    unfolding told_from told kept_after keep
+    pub told_ended : tag ≡ tag_end → judged_numbers (Ok (record { routers = kept.routers; links = kept.links; end = end })) ≡ told_from bytes place kept
+    unfolding told_from told kept_after keep answer_told
     told_ended e =
         let is_end = f.tag_there ∙ e in
         let (n, l) = kept_at_end (record_in place left) is_end in
@@ -184,7 +164,8 @@ module _ (bytes : List ℕ) (place : ℕ) (kept : Kept) where
         kept_at_end : (r : Record) → r.tag ≡ tag_end → ((keep kept r).routers ≡ kept.routers) × ((keep kept r).links ≡ kept.links)
         kept_at_end r q = (rw q, rw q (add-zero kept.links))
 
-        same : {a b c x y z : ℕ} → a ≡ x → b ≡ y → c ≡ z → Accepted a b c ≡ Accepted x y z
+        same : {a b c x y z : ℕ} → a ≡ x → b ≡ y → c ≡ z
+            → answered {A = Judging} (record { routers = a; links = b; end = c }) ≡ answered (record { routers = x; links = y; end = z })
         same p q r = rw (p, q, r)
 
     -- any other: what is told from its end on is what is told from its start on

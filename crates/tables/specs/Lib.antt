@@ -1,2 +1,3 @@
 pub mod Readings
+pub mod Accepted
 pub mod Accepting

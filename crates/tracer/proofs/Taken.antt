@@ -1,7 +1,7 @@
 -- The number of an answer is taken apart again: what is read from its bytes is the answer.
 -- Assumes nothing.
 use mathlib.Core.Path.{◌≡◌, refl, sym, ◌∙◌, ap, subst}
-use mathlib.Core.Logic.{◌≢◌, ◌⊎◌, inl, inr}
+use mathlib.Core.Logic.{◌≢◌}
 use mathlib.Core.List.{List, ◌∷◌}
 use mathlib.Core.Option.{Option, none, some}
 use mathlib.Core.Bool.{true}
@@ -207,14 +207,10 @@ unfolding byte_in name_bytes
 none_again part = (omega arith, omega arith)
 
 -- the answer is 0, or 1 with a part that fits
-named_again : {bytes : List ℕ} (part : Part) (v : ℕ) → (v ≡ 1 → PartFits bytes part) → (v ≡ 0) ⊎ (v ≡ 1) → Again (name_bytes part) named_in v
-named_again part v f (inl e) = subst (Again (name_bytes part) named_in) (sym e) (none_again part)
-named_again part v f (inr e) = subst (Again (name_bytes part) named_in) (sym e) (some_again part (f e))
-
--- whether there is a name is 1 or 0
-zero_or_one : (o : Option Name) (v : ℕ) → v ≡ named o → (v ≡ 0) ⊎ (v ≡ 1)
-zero_or_one none v e = inl e
-zero_or_one (some m) v e = inr e
+named_again : {bytes : List ℕ} (part : Part) (o : Option Name) (v : ℕ) → (v ≡ 1 → PartFits bytes part) → v ≡ named o
+    → Again (name_bytes part) named_in v
+named_again part none v f e = subst (Again (name_bytes part) named_in) (sym e) (none_again part)
+named_again part (some m) v f e = subst (Again (name_bytes part) named_in) (sym e) (some_again part (f e))
 
 -- the number of an answer that names a part
 named_word : {last_table : ℕ} {numbers : List ℕ} (part : Part) (a : Answer ℕ) → RefusedBy last_table numbers 0 a → a.values ≡ 1
@@ -274,16 +270,14 @@ taken_apart = record {
   of_name = λ q.
       let 𝓟 = name_proved q in
       again 𝓟.refusals _ _ (omega arith) refl refl
-      (λ e. named_again (name_part q) _ 𝓟.fits (zero_or_one (name_for q.table q.router) _ (𝓟.exactly.given e)));
+      (λ e. named_again (name_part q) (name_for q.table q.router) _ 𝓟.fits (𝓟.exactly.given e));
   of_name_part = λ q v.
       let 𝓟 = name_proved q in
       ap part_in (named_word (name_part q) (name_answer q) 𝓟.refusals v) ∙ part_again (name_part q) (𝓟.fits v);
   of_two_names = λ q.
       let 𝓟 = two_names_proved q in
       again 𝓟.refusals _ _ (omega arith) refl refl
-      (λ e.
-      named_again (two_names_part q) _ 𝓟.fits
-      (zero_or_one (or_else (name_for q.new q.router) (name_for q.old q.router)) _ (𝓟.exactly.given e)));
+      (λ e. named_again (two_names_part q) (or_else (name_for q.new q.router) (name_for q.old q.router)) _ 𝓟.fits (𝓟.exactly.given e));
   of_two_names_part = λ q v.
       let 𝓟 = two_names_proved q in
       ap part_in (named_word (two_names_part q) (two_names_answer q) 𝓟.refusals v) ∙ part_again (two_names_part q) (𝓟.fits v);

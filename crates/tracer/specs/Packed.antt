@@ -1,5 +1,5 @@
 -- Answers as one 64-bit number of eight bytes, byte 7 the highest.
-use Rattle.std.specs.Prelude.{◌≡◌, List, ℕ, ◌+◌, ◌*◌, ◌^◌, ◌<◌}
+use Rattle.std.specs.Prelude.{◌≡◌, List, ℕ, ◌+◌, ◌*◌, ◌^◌, ◌<◌, Option, Some, None}
 use Rattle.rules.specs.Words.{◌=?◌, pick}
 use Rattle.rules.specs.Names.{Part}
 use Rattle.rules.specs.Answers.{Answer}
@@ -11,8 +11,8 @@ use Rattle.rules.specs.EntryQuestion.{EntryInputs, entry_answer}
 use Rattle.rules.specs.InterfacesQuestion.{InterfacesInputs, interfaces_answer, interfaces_after}
 use Rattle.rules.specs.PathQuestion.{PathInputs, Ending, path_answer, trace_after}
 use Rattle.rules.specs.NameQuestions.{NameInputs, name_answer, name_part, TwoNamesInputs, two_names_answer, two_names_part}
-use Rattle.names.specs.declared.Naming.{Naming}
-use Rattle.names.specs.declared.Naming.TheVariants.{Named, Unnamed, Refused}
+use Rattle.refusals.specs.Refusals.{table_number}
+use Rattle.names.specs.declared.Part.{Part as PartHere}
 
 -- a refusal: the number in byte 7, the table in byte 6, the place below them
 unfoldable pub refusal_bytes : ℕ → ℕ → ℕ → ℕ
@@ -81,15 +81,13 @@ PacksName q r = r ≡ packed (name_bytes (name_part q)) (name_answer q)
 abbrev pub PacksTwoNames : TwoNamesInputs → ℕ → Type 0
 PacksTwoNames q r = r ≡ packed (name_bytes (two_names_part q)) (two_names_answer q)
 
--- ---- the name questions' answer by its cases
+-- ---- a name or none
 
-unfoldable pub naming_bytes : Naming → ℕ
-naming_bytes (Named table place size) = named_bytes table place size
-naming_bytes Unnamed = 0
-naming_bytes (Refused number table place) = refusal_bytes number table place
+unfoldable pub named_word : Option PartHere → ℕ
+named_word (Some p) = named_bytes (table_number p.table) p.place p.size
+named_word None = 0
 
--- the place and the length of a name fit in their bytes, and so does the place of a refusal
-abbrev pub NamingFits : Naming → Type 0
-NamingFits (Named table place size) = (place < 256 ^ 2) × (size < 256)
-NamingFits Unnamed = Unit {0}
-NamingFits (Refused number table place) = place < 256 ^ 6
+-- its place and its length fit in their bytes
+abbrev pub NamedFits : Option PartHere → Type 0
+NamedFits (Some p) = (p.place < 256 ^ 2) × (p.size < 256)
+NamedFits None = Unit {0}

@@ -12,7 +12,8 @@ use lib.Bits.{bit_or}
 use lib.Dec.{eqb}
 use lib.ListN.{length, get_or, set, replicate, length-set, length-replicate, get_or-replicate}
 use lib.Seq.{ext_get_or, get_or-set_same, get_or-set_other}
-use borrow.Author.Tests.{lt-ltb, eq-eqb, not-false}
+use borrow.Author.Tests.{lt-ltb, eq-eqb}
+use Rattle.std.specs.Prelude.{Option, Some, None}
 use Rattle.rules.specs.Words.{◌<?◌, pick, below}
 use Rattle.rules.specs.Layout.{Link, LinkFits}
 use Rattle.rules.specs.Table.{link_fits}
@@ -24,11 +25,10 @@ use Rattle.rules.proofs.TableSections.{fits_link, link_passes}
 use Rattle.rules.proofs.Sets.{set_none}
 use Rattle.rules.proofs.Weights.{ends_of}
 use Rattle.links.specs.Links.{next_numbers, link_at, Tells}
-use Rattle.links.specs.declared.NextLink.{NextLink}
-use Rattle.links.specs.declared.NextLink.TheVariants.{One, NoMore}
-use Rattle.webs.specs.Webs.{web_by, laid, near_with, weights_with, link}
+use Rattle.links.specs.declared.Link.{Link as LinkHere}
+use Rattle.webs.specs.Webs.{web_by, laid, near_with, weights_with, web_with, numbers_of}
 use Rattle.webs.specs.declared.Web.{Web}
-use Rattle.sets.proofs.Members.{one_bit, set_same, with_member}
+use Rattle.sets.proofs.ByMembers.{one_bit, set_same, with_member}
 
 -- a link does not pass the test where it does not fit
 pub unfit : (l : Link) → (LinkFits 64 l → ⊥) → link_fits 64 l ≡ false
@@ -134,51 +134,43 @@ module _ (l : Link) (ls : List Link) where
         at_none z x y (inl s) = x (omega arith)
         at_none z x y (inr s) = y (omega arith)
 
--- ---- as the code lays one link
+    web_more : web_with l (web_by (weight_in ls)) ≡ web_by (weight_in (l ∷ ls))
+    unfolding web_by
+    web_more = λ i. record { near = near_more i; weights = weights_more i }
 
 -- one that does not fit changes nothing
-module _ (l : Link) (e : link_fits 64 l ≡ false) where
-  pub near_kept : (near : List ℕ) → near ≡ near_with l near
-  unfolding near_with
-  near_kept near = sym (pick_f _ _ _ e)
+pub web_kept : (l : Link) → link_fits 64 l ≡ false → (web : Web) → web ≡ web_with l web
+unfolding near_with weights_with
+web_kept l e web =
+    let p : web.near ≡ near_with l web.near = sym (pick_f _ _ _ e) in
+    let q : web.weights ≡ weights_with l web.weights = sym (pick_f _ _ _ e) in
+    λ i. record { near = p i; weights = q i }
 
-  pub weights_kept : (weights : List ℕ) → weights ≡ weights_with l weights
-  unfolding weights_with
-  weights_kept weights = sym (pick_f _ _ _ e)
-
--- one that passes the code's test fits
-pub fit : (l : Link) (t : Bool) → t ≡ link_fits 64 l → not t ≡ false → LinkFits 64 l
-fit l t e p = fits_link 64 l (sym e ∙ not-false t p)
+-- ---- as the code lays one link
 
 -- one that fits is laid both ways
-module _ (a b weight : ℕ) (f : LinkFits 64 (link a b weight)) where
-  pub near_put : (near : List ℕ) → let one = set near a (bit_or (get_or near a 0) (1 * 2 ^ b % 2 ^ 64)) in
-      set one b (bit_or (get_or one b 0) (1 * 2 ^ a % 2 ^ 64)) ≡ near_with (link a b weight) near
+module _ (l : Link) (f : LinkFits 64 l) (web : Web) where
+  abbrev one : List ℕ
+  one = set web.near l.a (bit_or (get_or web.near l.a 0) (1 * 2 ^ l.b % 2 ^ 64))
+
+  abbrev both_ends : List ℕ
+  both_ends = set one l.b (bit_or (get_or one l.b 0) (1 * 2 ^ l.a % 2 ^ 64))
+
+  abbrev both_weights : List ℕ
+  both_weights = set (set web.weights (64 * l.a + l.b) l.weight) (64 * l.b + l.a) l.weight
+
+  ends_put : both_ends ≡ near_with l web.near
   unfolding near_with
-  near_put near = rw (one_bit a (omega (arith, f)), one_bit b (omega (arith, f))) (sym (pick_t _ _ _ (link_passes 64 (link a b weight) f)))
+  ends_put = rw (one_bit l.a (omega (arith, f)), one_bit l.b (omega (arith, f))) (sym (pick_t _ _ _ (link_passes 64 l f)))
 
-  pub weights_put : (weights : List ℕ) → set (set weights (64 * a + b) weight) (64 * b + a) weight ≡ weights_with (link a b weight) weights
+  weights_put : both_weights ≡ weights_with l web.weights
   unfolding weights_with
-  weights_put weights = sym (pick_t _ _ _ (link_passes 64 (link a b weight) f))
+  weights_put = sym (pick_t _ _ _ (link_passes 64 l f))
 
-module _ (next : NextLink) where
-  -- a link that is told is the one that is laid
-  pub as_told : (f : Link → List ℕ) (l : List ℕ) (a b weight place : ℕ) → next ≡ One a b weight place
-      → l ≡ f (link a b weight) → l ≡ f (next_numbers next).link
-  unfolding next_numbers
-  as_told f l a b weight place e p = rw e p
-
-  -- where none is told, none fits
-  pub none_told : next ≡ NoMore → link_fits 64 (next_numbers next).link ≡ false
-  unfolding next_numbers
-  none_told e = rw e (unfit (link 0 0 0) (λ f. omega (arith, f)))
+  pub web_put : ◌≡◌ {A = Web} (record { near = both_ends; weights = both_weights }) (web_with l web)
+  web_put = λ i. record { near = ends_put i; weights = weights_put i }
 
 -- ---- the links of a table, laid from the first on
-
--- the two arrays with the first n records laid
-pub record Laid (bytes : List ℕ) (start n : ℕ) (near weights : List ℕ) : Type 0 where
-  pub sets : near ≡ (web_by (weight_in (laid bytes start n))).near
-  pub numbers : weights ≡ (web_by (weight_in (laid bytes start n))).weights
 
 -- a function that is 0 everywhere
 no_values : (f : ℕ → ℕ) → ((k : ℕ) → f k ≡ 0) → (n : ℕ) → replicate n 0 ≡ map f (below n)
@@ -187,11 +179,15 @@ no_values f h n =
     (λ i l. let b : i < n = omega (arith, length-replicate {A = ℕ} n 0) in get_or-replicate n i 0 0 b ∙ sym (value_at f n i 0 b ∙ h i))
 
 module _ (bytes : List ℕ) (start : ℕ) where
-  pub none_laid : (near weights : List ℕ) → near ≡ replicate 64 0 → weights ≡ replicate 4096 0 → Laid bytes start 0 near weights
+  -- the web with the first n records laid
+  abbrev pub web_so_far : ℕ → Web
+  web_so_far n = web_by (weight_in (laid bytes start n))
+
+  pub none_laid : (web : Web) → web.near ≡ replicate 64 0 → web.weights ≡ replicate 4096 0 → web ≡ web_so_far 0
   unfolding laid web_by weight_in
-  none_laid near weights p q = record {
-    sets = p ∙ no_values (λ i. set_of (λ k. 0 <? 0) 64) (λ i. set_none (λ k. 0 <? 0) (λ k. refl) 64) 64;
-    numbers = q ∙ no_values (λ z. 0) (λ z. refl) 4096;
+  none_laid web p q = λ i. record {
+    near = (p ∙ no_values (λ i. set_of (λ k. 0 <? 0) 64) (λ i. set_none (λ k. 0 <? 0) (λ k. refl) 64) 64) i;
+    weights = (q ∙ no_values (λ z. 0) (λ z. refl) 4096) i;
   }
 
   -- record n, where it is a link that fits, comes in front
@@ -200,38 +196,32 @@ module _ (bytes : List ℕ) (start : ℕ) where
   unfolding laid
   next_laid n = refl
 
-  pub more_laid : (n : ℕ) (near weights near' weights' : List ℕ) (next : NextLink) → Laid bytes start n near weights
-      → Tells bytes (start + 7 * n) next → near' ≡ near_with (next_numbers next).link near → weights' ≡ weights_with (next_numbers next).link weights
-      → Laid bytes start (n + 1) near' weights'
-  more_laid n near weights near' weights' next h told p q = rw (add-one n) (go (link_fits 64 l) refl)
-    where
-      l : Link
-      l = (next_numbers next).link
+  module _ (n : ℕ) (web : Web) (so_far : web ≡ web_so_far n) where
+    -- record n, laid
+    one_laid : (next : Option LinkHere) → Tells bytes (start + 7 * n) next → web_with (next_numbers next).link web ≡ web_so_far (n + 1)
+    one_laid next told = rw (add-one n) (go (link_fits 64 l) refl)
+      where
+        l : Link
+        l = (next_numbers next).link
 
-      ls : List Link
-      ls = laid bytes start n
+        ls : List Link
+        ls = laid bytes start n
 
-      laid_so : laid bytes start (suc n) ≡ pick (link_fits 64 l) (l ∷ ls) ls
-      laid_so = next_laid n ∙ ap (λ m. pick (link_fits 64 m.link) (m.link ∷ ls) ls) (sym told.0)
+        laid_so : laid bytes start (suc n) ≡ pick (link_fits 64 l) (l ∷ ls) ls
+        laid_so = next_laid n ∙ ap (λ m. pick (link_fits 64 m.link) (m.link ∷ ls) ls) (sym told.0)
 
-      go : (t : Bool) → link_fits 64 l ≡ t → Laid bytes start (suc n) near' weights'
-      go true e =
-          let f = fits_link 64 l e in
-          let so : l ∷ ls ≡ laid bytes start (suc n) = sym (laid_so ∙ pick_t _ _ _ e) in
-          record {
-            sets = p ∙ ap (near_with l) h.sets ∙ near_more l ls f ∙ ap (λ ls. (web_by (weight_in ls)).near) so;
-            numbers = q ∙ ap (weights_with l) h.numbers ∙ weights_more l ls f ∙ ap (λ ls. (web_by (weight_in ls)).weights) so;
-          }
-      go false e =
-          let so : ls ≡ laid bytes start (suc n) = sym (laid_so ∙ pick_f _ _ _ e) in
-          record {
-            sets = p ∙ sym (near_kept l e near) ∙ h.sets ∙ ap (λ ls. (web_by (weight_in ls)).near) so;
-            numbers = q ∙ sym (weights_kept l e weights) ∙ h.numbers ∙ ap (λ ls. (web_by (weight_in ls)).weights) so;
-          }
+        go : (t : Bool) → link_fits 64 l ≡ t → web_with l web ≡ web_so_far (suc n)
+        go true e =
+            ap (web_with l) so_far
+            ∙ web_more l ls (fits_link 64 l e)
+            ∙ ap (λ ls. web_by (weight_in ls)) (sym (laid_so ∙ pick_t _ _ _ e))
+        go false e = sym (web_kept l e web) ∙ so_far ∙ ap (λ ls. web_by (weight_in ls)) (sym (laid_so ∙ pick_f _ _ _ e))
 
-  -- at the end the arrays are the web
-  pub all_laid : (n m : ℕ) (near weights : List ℕ) → Laid bytes start n near weights → n ≡ m
-      → ◌≡◌ {A = Web} (record { near = near; weights = weights }) (web_by (weight_in (laid bytes start m)))
-  unfolding web_by
-  all_laid n m near weights h e =
-      (λ i. record { near = h.sets i; weights = h.numbers i }) ∙ ap (λ k. web_by (weight_in (laid bytes start k))) e
+    -- as the code does it
+    pub link_laid : (l : LinkHere) → Tells bytes (start + 7 * n) (Some l) → (next : Web) → next ≡ web_with (numbers_of l) web → next ≡ web_so_far (n + 1)
+    unfolding next_numbers
+    link_laid l told next e = e ∙ one_laid (Some l) told
+
+    pub no_link_laid : Tells bytes (start + 7 * n) None → web ≡ web_so_far (n + 1)
+    unfolding next_numbers
+    no_link_laid told = web_kept (next_numbers None).link (unfit _ (λ f. omega (arith, f))) web ∙ one_laid None told

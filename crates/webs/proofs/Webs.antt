@@ -3,7 +3,7 @@
 use mathlib.Core.Path.{◌≡◌, refl, sym, ◌∙◌, ap, ap₂}
 use mathlib.Core.Bool.{Bool, true, false, false≢true}
 use mathlib.Core.List.{List, map}
-use Prim.Native.Nat.{ℕ, ◌+◌, ◌*◌, ◌/◌, ◌%◌, ◌≤◌, ◌<◌}
+use Prim.Native.Nat.{ℕ, ◌+◌, ◌*◌, ◌/◌, ◌%◌, ◌^◌, ◌≤◌, ◌<◌}
 use native.Mathlib.Decide.{dec_lt}
 use native.Mathlib.Omega.{arith}
 use mir.Syntax.{w16, w64}
@@ -15,10 +15,17 @@ use Rattle.rules.specs.NextHops.{has, set_of}
 use Rattle.rules.proofs.Basics.{pick_t, pick_f, value_at, value_behind}
 use Rattle.rules.proofs.CostLaws.{Net}
 use Rattle.rules.proofs.Sets.{set_below, set_has, has_below, member_below}
-use Rattle.sets.proofs.Members.{nobody}
-use Rattle.webs.specs.Webs.{weight_over, web_weight, IsWeb, web_by}
+use Rattle.sets.proofs.ByMembers.{nobody}
+use Rattle.webs.specs.Webs.{weight_over, web_weight, web_by}
 
--- what the types of a web's arrays say
+-- what the types of the two arrays say: 64 sets of 64 bits, 64 × 64 weights of 16 bits
+pub record IsWeb (near weights : List ℕ) : Type 0 where
+  pub near_long : length near ≡ 64
+  pub weights_long : length weights ≡ 4096
+  pub near_fits : (i : ℕ) → get_or near i 0 < 2 ^ 64
+  pub weights_fit : (z : ℕ) → get_or weights z 0 < 65536
+
+-- as a proof has it of an array behind a reference
 pub is_web : (near weights : List ℕ) → length near ≡ 64 → length weights ≡ 4096
     → ((i : ℕ) → Fits w64 (get_or near i 0)) → ((z : ℕ) → Fits w16 (get_or weights z 0)) → IsWeb near weights
 is_web near weights n m f g = record { near_long = n; weights_long = m; near_fits = λ i. omega (arith, f i); weights_fit = λ z. omega (arith, g z) }

@@ -1,6 +1,6 @@
 -- A web: the links of a table as an adjacency matrix, 64 rows of 64 weights (0: no link), and beside it each router's neighbours as a 64-bit number.
 -- Every content of the two arrays means something.
-use Rattle.std.specs.Prelude.{◌≡◌, List, [], ◌∷◌, map, ℕ, zero, suc, ◌+◌, ◌*◌, ◌/◌, ◌%◌, ◌^◌, ◌<◌, length, get_or, set}
+use Rattle.std.specs.Prelude.{◌≡◌, List, [], ◌∷◌, map, ℕ, zero, suc, ◌+◌, ◌*◌, ◌/◌, ◌%◌, ◌^◌, ◌<◌, get_or, set}
 use Rattle.std.specs.Int.Bits.{bit_or}
 use Rattle.rules.specs.Words.{◌<?◌, pick, below}
 use Rattle.rules.specs.Layout.{Link}
@@ -9,6 +9,7 @@ use Rattle.rules.specs.Links.{weight_in}
 use Rattle.rules.specs.NextHops.{has, set_of}
 use Rattle.tables.specs.declared.Outline.{Outline}
 use Rattle.links.specs.Links.{link_at}
+use Rattle.links.specs.declared.Link.{Link as LinkHere}
 use Rattle.webs.specs.declared.Web.{Web}
 
 -- ---- what a web says
@@ -20,13 +21,6 @@ weight_over near weights i k = pick (has (get_or near i 0) k) (get_or weights (6
 -- the same of a web
 abbrev pub web_weight : Web → ℕ → ℕ → ℕ
 web_weight web = weight_over web.near web.weights
-
--- what the types of the two arrays say: 64 sets of 64 bits, 64 × 64 weights of 16 bits
-pub record IsWeb (near weights : List ℕ) : Type 0 where
-  pub near_long : length near ≡ 64
-  pub weights_long : length weights ≡ 4096
-  pub near_fits : (i : ℕ) → get_or near i 0 < 2 ^ 64
-  pub weights_fit : (z : ℕ) → get_or weights z 0 < 65536
 
 -- ---- the web of given weights
 
@@ -50,9 +44,9 @@ LaysOut table t r = r ≡ web_at table t
 
 -- ---- one more link
 
--- a link by its three numbers
-abbrev pub link : ℕ → ℕ → ℕ → Link
-link a b weight = record { a = a; b = b; weight = weight }
+-- a link as it is told, by its three numbers
+abbrev pub numbers_of : LinkHere → Link
+numbers_of l = record { a = l.a; b = l.b; weight = l.weight }
 
 -- the two arrays with it; one that does not fit changes nothing
 unfoldable pub near_with : Link → List ℕ → List ℕ
@@ -63,3 +57,7 @@ near_with l near =
 unfoldable pub weights_with : Link → List ℕ → List ℕ
 weights_with l weights =
     pick (link_fits 64 l) (set (set weights (64 * l.a + l.b) l.weight) (64 * l.b + l.a) l.weight) weights
+
+-- the web with it
+abbrev pub web_with : Link → Web → Web
+web_with l web = record { near = near_with l web.near; weights = weights_with l web.weights }

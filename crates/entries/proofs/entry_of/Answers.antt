@@ -1,28 +1,27 @@
--- `entries::entry_of` meets its contract.
+-- `entries::entry_of` meets its contract: the table is refused, 9 refuses, or the entry is given.
 -- Assumes nothing.
-use native.Mathlib.Omega.{arith}
-use Rattle.entries.proofs.Answers.{table_refused, number_refused, asked, given}
+use mathlib.Core.Path.{ap}
+use Rattle.rules.specs.Entries.{code}
+use Rattle.rules.specs.EntryQuestion.{entry_refusals, entry_answer}
+use Rattle.refusals.proofs.Exits.{exit_is}
+use Rattle.tables.proofs.OnTable.{table_refuses, reason_refuses, none_refuses}
 use Rattle.entries.proofs.entry_of.Goals as goal
 
-pub returns-then-number-ne0 : goal.returns-then-number-ne0
-returns-then-number-ne0 c = number_refused _ _ _ c.read-reading.ensures c.in-Accepted.is _ c.entry_number-number.ensures c.if-number-ne0.true
+pub returns-in_err-t : goal.returns-in_err-t
+unfolding entry_answer
+returns-in_err-t c = rw (exit_is _ c.from_residual.ensures.1) (table_refuses _ _ _ _ _ _ c.in_err-t.ensures, tt)
 
-pub overflow_cast-router : goal.overflow_cast-router
-overflow_cast-router c = omega (arith, asked _ _ _ c.read-reading.ensures c.in-Accepted.is _ c.entry_number-number.ensures c.if-number-ne0.false)
+pub returns-in_err-judge_entry : goal.returns-in_err-judge_entry
+unfolding entry_answer
+returns-in_err-judge_entry c =
+    let a = c.args in
+    rw (exit_is _ c.from_residual-in_err-judge_entry.ensures.1, ← c.in_ok-t.ensures)
+    (reason_refuses _ _ _ c.in_ok-t.t (λ n. entry_refusals n a.router a.previous a.destination) _ c.in_err-judge_entry.ensures, tt)
 
-pub overflow_cast-previous : goal.overflow_cast-previous
-overflow_cast-previous c = omega (arith, asked _ _ _ c.read-reading.ensures c.in-Accepted.is _ c.entry_number-number.ensures c.if-number-ne0.false)
-
-pub overflow_cast-destination : goal.overflow_cast-destination
-overflow_cast-destination c = omega (arith, asked _ _ _ c.read-reading.ensures c.in-Accepted.is _ c.entry_number-number.ensures c.if-number-ne0.false)
-
-pub entry_in-requires : goal.entry_in-requires
-entry_in-requires c =
-    let a = asked _ _ _ c.read-reading.ensures c.in-Accepted.is _ c.entry_number-number.ensures c.if-number-ne0.false in
-    (a.0, a.1, a.2)
-
-pub returns-else-number-ne0 : goal.returns-else-number-ne0
-returns-else-number-ne0 c = given _ _ _ c.read-reading.ensures c.in-Accepted.is _ c.entry_number-number.ensures c.if-number-ne0.false _ c.entry_in.ensures
-
-pub returns-in-Refused : goal.returns-in-Refused
-returns-in-Refused c = table_refused _ _ _ _ c.read-reading.ensures c.in-Refused.is
+pub returns : goal.returns
+unfolding entry_answer
+returns c =
+    let a = c.args in
+    let told = c.entry_in.ensures in
+    rw (← c.in_ok-t.ensures)
+    (none_refuses _ _ _ c.in_ok-t.t (λ n. entry_refusals n a.router a.previous a.destination) c.in_ok-judge_entry.ensures _ (ap code told), told)

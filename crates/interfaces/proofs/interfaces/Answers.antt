@@ -1,26 +1,23 @@
--- `interfaces::interfaces` meets its contract.
+-- `interfaces::interfaces` meets its contract: the refusal of the table, 9, 10, or the table written.
 -- Assumes nothing.
-use native.Mathlib.Omega.{arith}
-use Rattle.interfaces.proofs.Answers.{table_refused, number_refused, asked, written}
+use lib.ListN.{length}
+use Rattle.rules.specs.InterfacesQuestion.{interfaces_refusals, interfaces_answer}
+use Rattle.tables.proofs.OnTable.{exit_is, table_refuses, reason_refuses}
+use Rattle.interfaces.proofs.Answers.{refused, written}
 use Rattle.interfaces.proofs.interfaces.Goals as goal
 
-pub returns-then-number-ne0 : goal.returns-then-number-ne0
-returns-then-number-ne0 c = number_refused _ _ _ c.read-reading.ensures c.in-Accepted.is _ c.interfaces_number-number.ensures c.if-number-ne0.true
+pub returns-in_err-t : goal.returns-in_err-t
+unfolding interfaces_answer
+returns-in_err-t c = rw (exit_is _ c.from_residual.ensures.1) (refused _ _ (table_refuses _ _ _ _ _ _ c.in_err-t.ensures))
 
-pub overflow_cast-router : goal.overflow_cast-router
-overflow_cast-router c =
-    let g = c.args in
-    omega (arith, (asked (record { table = _; router = _; out = g.out.now }) _ _ c.read-reading.ensures c.in-Accepted.is _ c.interfaces_number-number.ensures c.if-number-ne0.false).2)
+pub returns-in_err-judge_interfaces : goal.returns-in_err-judge_interfaces
+unfolding interfaces_answer
+returns-in_err-judge_interfaces c =
+    let a = c.args in
+    rw (exit_is _ c.from_residual-in_err-judge_interfaces.ensures.1, ← c.in_ok-t.ensures)
+    (refused _ _ (reason_refuses _ _ _ c.in_ok-t.t (λ n. interfaces_refusals n a.router (length a.out.now)) _ c.in_err-judge_interfaces.ensures.found))
 
-pub write_accepted-requires : goal.write_accepted-requires
-write_accepted-requires c =
-    let g = c.args in
-    asked (record { table = _; router = _; out = g.out.now }) _ _ c.read-reading.ensures c.in-Accepted.is _ c.interfaces_number-number.ensures c.if-number-ne0.false
-
-pub returns-else-number-ne0 : goal.returns-else-number-ne0
-returns-else-number-ne0 c =
-    let w = c.write_accepted.ensures in
-    written _ _ _ c.read-reading.ensures c.in-Accepted.is _ c.interfaces_number-number.ensures c.if-number-ne0.false _ c.size_for-size.ensures _ w
-
-pub returns-in-Refused : goal.returns-in-Refused
-returns-in-Refused c = table_refused _ _ _ _ c.read-reading.ensures c.in-Refused.is
+pub returns : goal.returns
+returns c =
+    rw (← c.in_ok-t.ensures)
+    (written c.in_ok-t.t _ _ c.in_ok-judge_interfaces.ensures.found _ c.size_for.ensures _ c.write_accepted.ensures)

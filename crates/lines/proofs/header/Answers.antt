@@ -1,6 +1,6 @@
 -- `lines::header` meets its contract.
 -- Assumes nothing.
-use native.Mathlib.Omega.{arith}
+use borrow.Author.Rules.{rules}
 use Rattle.rules.specs.Words.{text_from}
 use Rattle.rules.specs.Listing.{header}
 use Rattle.lines.proofs.Pages.{put_first}
@@ -8,4 +8,4 @@ use Rattle.lines.proofs.header.Goals as goal
 
 pub returns : goal.returns
 unfolding text_from header
-returns c = put_first c.put_text.ensures (omega arith)
+returns c = put_first c.text.ensures c.begin.ensures (search rules)

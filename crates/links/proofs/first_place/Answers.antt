@@ -1,16 +1,13 @@
--- `links::first_place` meets its contract, by what the reading question tells of the bytes.
+-- `links::first_place` meets its contract: an accepted table has its own outline, and a refused one no links.
 -- Assumes nothing.
 use mathlib.Core.Path.{sym, ◌∙◌, ap}
-use Rattle.tables.proofs.Asked.{reading_accepted, reading_refused}
+use Rattle.tables.specs.declared.Outline.{Outline}
 use Rattle.links.proofs.Stand.{start_of_accepted, start_of_refused}
 use Rattle.links.proofs.first_place.Goals as goal
 
-pub returns-in-Accepted : goal.returns-in-Accepted
-returns-in-Accepted c =
-    let (e, t) = reading_accepted _ _ _ c.read-reading.ensures c.in-Accepted.is in
-    ap (λ o. o.start) t ∙ sym (start_of_accepted c.args.table.now e)
+pub returns-in-Ok : goal.returns-in-Ok
+returns-in-Ok c =
+    rw c.in-Ok.ensures at (ap (λ (o : Outline). o.start) c.in-Ok.t.outlined ∙ sym (start_of_accepted _ c.in-Ok.t.accepted))
 
-pub returns-in-Refused : goal.returns-in-Refused
-returns-in-Refused c =
-    let (e, at, n) = reading_refused _ _ _ _ c.read-reading.ensures c.in-Refused.is in
-    sym (start_of_refused c.args.table.now (λ z. n (sym e ∙ z)))
+pub returns-in-Err : goal.returns-in-Err
+returns-in-Err c = sym (start_of_refused _ c.in-Err.ensures.0)

@@ -5,7 +5,7 @@ use Rattle.names.proofs.Seeking.{Seeks}
 use Rattle.names.proofs.find.Given as goal
 
 abbrev pub invariant-loop-place : goal.invariant-loop-place
-invariant-loop-place l = Seeks l.table l.router l.place
+invariant-loop-place l = Seeks l.table.bytes.now l.router l.place
 
 abbrev pub decreases-loop-place : goal.decreases-loop-place
-decreases-loop-place l = length l.table - l.place
+decreases-loop-place l = length l.table.bytes.now - l.place

@@ -1,17 +1,14 @@
 -- `names::naming_in` meets its contract.
 -- Assumes nothing.
-use Rattle.tables.proofs.Asked.{reading_accepted}
+use Rattle.refusals.proofs.Exits.{exit_is}
 use Rattle.names.proofs.Namings.{in_refused, in_above, in_found}
 use Rattle.names.proofs.naming_in.Goals as goal
 
-pub returns-then-outline-router : goal.returns-then-outline-router
-returns-then-outline-router c = in_above _ _ c.read-reading.ensures _ c.in-Accepted.is c.if-outline-router.true
+pub returns-in_err-t : goal.returns-in_err-t
+returns-in_err-t c = rw (exit_is _ c.from_residual.ensures.1) (in_refused c.args.table _ _ c.in_err-t.ensures)
 
-pub find-requires : goal.find-requires
-find-requires c = (reading_accepted _ _ _ c.read-reading.ensures c.in-Accepted.is).0
+pub returns-then-t-router : goal.returns-then-t-router
+returns-then-t-router c = rw (c.into.ensures, ← c.in_ok-t.ensures) (in_above c.in_ok-t.t _ c.if-t-router.true)
 
-pub returns-in-Refused : goal.returns-in-Refused
-returns-in-Refused c = in_refused _ _ c.read-reading.ensures _ _ c.in-Refused.is
-
-pub returns-else-outline-router : goal.returns-else-outline-router
-returns-else-outline-router c = in_found _ _ c.read-reading.ensures _ c.in-Accepted.is _ c.if-outline-router.false c.find.ensures
+pub returns : goal.returns
+returns c = rw (c.find.ensures, ← c.in_ok-t.ensures) (in_found c.in_ok-t.t _ c.if-t-router.false)

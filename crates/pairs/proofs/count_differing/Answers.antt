@@ -1,14 +1,15 @@
 -- `pairs::count_differing` meets its contract. The loop's invariant is the walk along both tables; the measure falls because the pairs in front rise.
 -- Assumes nothing.
-use mathlib.Core.Path.{refl}
+use mathlib.Core.Path.{refl, ap}
 use native.Mathlib.Omega.{arith}
+use Rattle.tables.specs.declared.Outline.{Outline}
 use Rattle.pairs.proofs.Fronts.{starts, count_small, old_turn, new_turn, both_turn, ends}
 use Rattle.pairs.proofs.count_differing.Goals as goal
 
 pub loop-o-init : goal.loop-o-init
 loop-o-init c =
-    let p = c.requires in
-    starts _ _ _ _ _ _ p.0 p.1 p.2 p.3 c.front_at-o.ensures c.front_at-n.ensures
+    let a = c.args in
+    starts _ _ _ _ _ _ a.old.accepted a.new.accepted (ap (λ (t : Outline). t.start) a.old.outlined) (ap (λ (t : Outline). t.start) a.new.outlined) c.front_at-o.ensures c.front_at-n.ensures
 
 pub overflow_add-count : goal.overflow_add-count
 overflow_add-count c =
@@ -45,22 +46,22 @@ returns-then-o-eq-NO_PAIR c =
     let w = c.loop-o.invariant in
     ends _ _ _ _ _ w (omega arith) c.if-o-eq-NO_PAIR.true
 
-pub overflow_add-count-in-loop-o : goal.overflow_add-count-in-loop-o
-overflow_add-count-in-loop-o c =
+pub overflow_add-count-else-o-eq-NO_PAIR : goal.overflow_add-count-else-o-eq-NO_PAIR
+overflow_add-count-else-o-eq-NO_PAIR c =
     let w = c.loop-o.invariant in
-    omega (arith, count_small _ _ _ _ _ (both_turn _ _ _ _ _ w (omega arith) c.if-o-eq-NO_PAIR.false _ c.differ_by-count.ensures _ _ refl refl).0)
+    omega (arith, count_small _ _ _ _ _ (both_turn _ _ _ _ _ w (omega arith) c.if-o-eq-NO_PAIR.false _ c.from-count.ensures _ _ refl refl).0)
 
 pub loop-o-smaller : goal.loop-o-smaller
 loop-o-smaller c =
     let w = c.loop-o.invariant in
     omega (
       arith,
-      both_turn _ _ _ _ _ w (omega arith) c.if-o-eq-NO_PAIR.false _ c.differ_by-count.ensures _ _
-          c.front_at-o-in-loop-o.ensures c.front_at-n-in-loop-o.ensures,
+      both_turn _ _ _ _ _ w (omega arith) c.if-o-eq-NO_PAIR.false _ c.from-count.ensures _ _
+          c.front_at-o-else-o-eq-NO_PAIR.ensures c.front_at-n-else-o-eq-NO_PAIR.ensures,
     )
 
 pub loop-o-preserved : goal.loop-o-preserved
 loop-o-preserved c =
     let w = c.loop-o.invariant in
-    (both_turn _ _ _ _ _ w (omega arith) c.if-o-eq-NO_PAIR.false _ c.differ_by-count.ensures _ _
-    c.front_at-o-in-loop-o.ensures c.front_at-n-in-loop-o.ensures).0
+    (both_turn _ _ _ _ _ w (omega arith) c.if-o-eq-NO_PAIR.false _ c.from-count.ensures _ _
+    c.front_at-o-else-o-eq-NO_PAIR.ensures c.front_at-n-else-o-eq-NO_PAIR.ensures).0

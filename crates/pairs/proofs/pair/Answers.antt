@@ -1,19 +1,11 @@
--- `pairs::pair` meets its contract: the refusal of the table that is refused first, or the comparison.
+-- `pairs::pair` meets its contract.
 -- Assumes nothing.
-use Rattle.tables.proofs.Asked.{reading_accepted, reading_refused}
-use Rattle.pairs.proofs.Answers.{old_refused, new_refused}
+use Rattle.refusals.proofs.Exits.{exit_is}
+use Rattle.pairs.proofs.Answers.{pair_refused, pair_answered}
 use Rattle.pairs.proofs.pair.Goals as goal
 
-pub compare-requires : goal.compare-requires
-compare-requires c =
-    let o = reading_accepted _ _ _ c.read-first.ensures c.in-Accepted.is in
-    let n = reading_accepted _ _ _ c.read-second.ensures c.in-Accepted-second.is in
-    (o.0, n.0, o.1, n.1)
+pub returns-in_err-tables : goal.returns-in_err-tables
+returns-in_err-tables c = rw (exit_is _ c.from_residual.ensures.1) (pair_refused c.args.old c.args.new _ c.in_err-tables.ensures)
 
-pub returns-in-Refused-second : goal.returns-in-Refused-second
-returns-in-Refused-second c =
-    let o = reading_accepted _ _ _ c.read-first.ensures c.in-Accepted.is in
-    new_refused _ o.0 _ _ (reading_refused _ _ _ _ c.read-second.ensures c.in-Refused-second.is)
-
-pub returns-in-Refused : goal.returns-in-Refused
-returns-in-Refused c = old_refused _ _ _ (reading_refused _ _ _ _ c.read-first.ensures c.in-Refused.is)
+pub returns : goal.returns
+returns c = let (p, q) = c.in_ok-tables.ensures in pair_answered c.args.old c.args.new c.in_ok-tables.tables p q

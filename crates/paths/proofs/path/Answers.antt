@@ -1,39 +1,32 @@
 -- `paths::path` meets its contract.
 -- Assumes nothing.
-use Prim.Native.Nat.{◌<◌}
 use native.Mathlib.Omega.{arith}
-use Rattle.tables.proofs.Asked.{some_routers, few_routers}
-use Rattle.pairs.proofs.Answers.{pairing_accepted, pairing_refused}
-use Rattle.paths.proofs.Answers.{numbers_fit, pair_refused, number_refused, followable}
+use Rattle.std.proofs.lemmas.Result.{err_from_is_err_and}
+use Rattle.paths.proofs.Answers.{pair_refused, some_routers, reason_refused, followable, numbers_fit}
 use Rattle.paths.proofs.path.Goals as goal
 
-pub packet_number-number-requires : goal.packet_number-number-requires
-packet_number-number-requires c =
-    let a = pairing_accepted _ _ c.pair-pairing.ensures _ _ _ c.in-Accepted.is in
-    some_routers _ a.0.new_accepted _ a.2
+pub returns-in_err-tables : goal.returns-in_err-tables
+returns-in_err-tables c =
+    let p = err_from_is_err_and c.from_residual.result c.from_residual.ensures.1 in
+    rw (p.1, p.2) (pair_refused _ _ c.in_err-tables.ensures)
 
-pub returns-then-number-ne0 : goal.returns-then-number-ne0
-returns-then-number-ne0 c =
-    let a = pairing_accepted _ _ c.pair-pairing.ensures _ _ _ c.in-Accepted.is in
-    number_refused _ _ _ a _ c.numbers_are_bad-bad.ensures _ c.packet_number-number.ensures c.if-number-ne0.true
+pub judge_packet-requires : goal.judge_packet-requires
+judge_packet-requires c = some_routers c.in_ok-tables.tables
 
--- where 9 and 11 do not refuse, source and destination are one byte each
-fit : (c : goal.Else-number-ne0) → (c.args.source < 256) × (c.args.destination < 256)
-fit c =
-    let a = pairing_accepted _ _ c.pair-pairing.ensures _ _ _ c.in-Accepted.is in
-    let few = few_routers _ a.0.new_accepted _ a.2 in
-    numbers_fit _ _ _ few _ c.numbers_are_bad-bad.ensures _ _ c.packet_number-number.ensures c.if-number-ne0.false
+pub returns-in_err-judge_packet : goal.returns-in_err-judge_packet
+returns-in_err-judge_packet c =
+    let p = err_from_is_err_and c.from_residual-in_err-judge_packet.result c.from_residual-in_err-judge_packet.ensures.1 in
+    let (o, n) = c.in_ok-tables.ensures in
+    rw (p.1, p.2, ← o, ← n) (reason_refused c.in_ok-tables.tables _ _ _ _ _ c.in_err-judge_packet.ensures)
 
 pub overflow_cast-source : goal.overflow_cast-source
-overflow_cast-source c = omega (arith, fit c)
+overflow_cast-source c = omega (arith, numbers_fit c.in_ok-tables.tables _ _ _ c.in_ok-judge_packet.ensures)
 
 pub overflow_cast-destination : goal.overflow_cast-destination
-overflow_cast-destination c = omega (arith, fit c)
+overflow_cast-destination c = omega (arith, numbers_fit c.in_ok-tables.tables _ _ _ c.in_ok-judge_packet.ensures)
 
 pub path_in-requires : goal.path_in-requires
-path_in-requires c =
-    let a = pairing_accepted _ _ c.pair-pairing.ensures _ _ _ c.in-Accepted.is in
-    followable _ _ _ a _ c.numbers_are_bad-bad.ensures _ c.packet_number-number.ensures c.if-number-ne0.false
+path_in-requires c = followable c.in_ok-tables.tables _ _ _ _ c.in_ok-judge_packet.ensures
 
-pub returns-in-Refused : goal.returns-in-Refused
-returns-in-Refused c = pair_refused _ _ _ _ (pairing_refused _ _ c.pair-pairing.ensures _ _ _ c.in-Refused.is)
+pub returns : goal.returns
+returns c = let (o, n) = c.in_ok-tables.ensures in rw (← o, ← n) c.path_in.ensures

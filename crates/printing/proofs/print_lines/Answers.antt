@@ -29,9 +29,11 @@ loop-router-preserved g c =
     let before = g.W.Write.contents c.args.out.now in
     let now = g.W.Write.contents c.loop-router.out in
     let after = g.W.Write.contents c.write_whole-in-loop-router.new.out in
-    let page = subst (Appends now after) (page_bytes c.args.table.now c.args.t c.loop-router.router c.web_of-web.ensures c.router_lines-length.ensures) c.in_ok-write_whole-2.ensures.ok in
-    subst (Appends before after) (page_more c.args.table.now c.args.t c.loop-router.router) (Appends-trans before now after _ _ c.loop-router.invariant page)
+    let page = page_bytes c.args.table.now c.args.t c.loop-router.router c.web_of-web.ensures c.router_lines-length.ensures in
+    let part = subst (Appends now after) page c.in_ok-write_whole-2.ensures.ok in
+    subst (Appends before after) (page_more c.args.table.now c.args.t _) (Appends-trans before now after _ _ c.loop-router.invariant part)
 
 pub returns-clause-ok : goal.returns-clause-ok
 returns-clause-ok g c =
-    subst (Appends _ _) (all_pages c.args.table.now c.args.t c.loop-router.router c.loop-router.auto.router-end c.loop-router-test.false) c.loop-router.invariant
+    let all = all_pages c.args.table.now c.args.t c.loop-router.router c.loop-router.auto.router-end c.loop-router-test.false in
+    subst (Appends _ _) all c.loop-router.invariant

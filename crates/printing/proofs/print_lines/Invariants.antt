@@ -1,4 +1,5 @@
 -- The header and the pages so far are written.
+-- Assumes nothing.
 use Rattle.std.specs.Io.KnownBytes.{Appends}
 use Rattle.printing.proofs.Pages.{pages_below}
 use Rattle.printing.proofs.print_lines.Given as goal

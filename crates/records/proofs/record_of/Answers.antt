@@ -1,39 +1,25 @@
--- `records::record_of` meets its contract. One law for each way out, in the order of the tests.
+-- `records::record_of` meets its contract.
 -- Assumes nothing.
-use mathlib.Core.Path.{sym, ◌∙◌}
 use native.Mathlib.Omega.{arith}
-use Rattle.records.proofs.Stepping.{step_tag, step_length, step_contents, contents_length, step_number, step_record}
+use Rattle.std.proofs.lemmas.Grind.{common_steps}
+use Rattle.std.proofs.lemmas.Bool.Decides.{nat_tests}
+use Rattle.rules.specs.Table.{step}
+use Rattle.refusals.proofs.Told.{some_number}
+use Rattle.records.specs.Steps.{step_of}
+use Rattle.records.proofs.Stepping.{contents_there}
 use Rattle.records.proofs.record_of.Goals as goal
 
-pub returns-then-tag_is_bad : goal.returns-then-tag_is_bad
-returns-then-tag_is_bad c =
-    let p = c.requires in
-    step_tag _ _ _ p.0 _ p.1 (sym c.tag_is_bad.ensures ∙ c.if-tag_is_bad.true)
-
-pub returns-then-not-length_fits : goal.returns-then-not-length_fits
-returns-then-not-length_fits c =
-    let p = c.requires in
-    step_length _ _ _ p.0 _ p.1 (sym c.tag_is_bad.ensures ∙ c.if-tag_is_bad.false) _ c.joined-size.ensures
-    (sym c.length_fits.ensures ∙ c.if-not-length_fits.true)
-
-pub returns-then-table-end : goal.returns-then-table-end
-returns-then-table-end c =
-    let p = c.requires in
-    step_contents _ _ _ p.0 _ p.1 (sym c.tag_is_bad.ensures ∙ c.if-tag_is_bad.false) _ c.joined-size.ensures (sym c.length_fits.ensures ∙ c.if-not-length_fits.false) (omega arith)
-
-pub contents_number-number-requires : goal.contents_number-number-requires
-contents_number-number-requires c =
-    let a = c.args in
-    contents_length a.table.now a.place _ _ (sym c.length_fits.ensures ∙ c.if-not-length_fits.false) c.if-table-end.false
-
-pub returns-then-number-ne0 : goal.returns-then-number-ne0
-returns-then-number-ne0 c =
-    let p = c.requires in
-    step_number _ _ _ p.0 _ p.1 (sym c.tag_is_bad.ensures ∙ c.if-tag_is_bad.false) _ c.joined-size.ensures (sym c.length_fits.ensures ∙ c.if-not-length_fits.false) c.if-table-end.false _ c.contents_number-number.ensures
-    c.if-number-ne0.true
+pub returns-in-Err : goal.returns-in-Err
+unfolding step step_of
+returns-in-Err c =
+    let e = contents_there c.args.table.now c.args.place c.from-size.result in
+    let n = c.in-Err.ensures in
+    let s = some_number c.in-Err.reason in
+    grind (arith, common_steps, nat_tests)
 
 pub returns : goal.returns
+unfolding step step_of
 returns c =
-    let p = c.requires in
-    step_record _ _ _ p.0 _ p.1 (sym c.tag_is_bad.ensures ∙ c.if-tag_is_bad.false) _ c.joined-size.ensures (sym c.length_fits.ensures ∙ c.if-not-length_fits.false) c.if-table-end.false _ c.contents_number-number.ensures
-    c.if-number-ne0.false
+    let e = contents_there c.args.table.now c.args.place c.from-size.result in
+    let n = c.in_default.ensures in
+    grind (arith, common_steps, nat_tests)

@@ -1,65 +1,42 @@
--- `routes::hops_at` meets its contract: a walk over the bits of the router's links.
+-- `routes::hops_at` meets its contract: a walk over the routers that it is linked to.
 -- Assumes nothing.
+use Prim.Native.Nat.{◌<◌}
 use native.Mathlib.Omega.{arith}
-use Rattle.routes.proofs.Hops.{starts, router, onward, ends}
+use borrow.Author.Rules.{rules}
+use Rattle.routes.proofs.Hops.{starts, router, fits, onward, ends}
 use Rattle.routes.proofs.hops_at.Goals as goal
+use Rattle.routes.proofs.hops_at.Goals.{In-Some}
 
-pub offset_bounds-costs-i : goal.offset_bounds-costs-i
-offset_bounds-costs-i c = omega (arith, c.requires)
+-- the router that a link leads to
+linked : (c : In-Some) → c.in-Some.k < 64
+linked c = router _ _ _ _ _ _ c.loop-k.invariant _ _ c.in-Some.ensures.steps
 
-pub bounds-costs-i : goal.bounds-costs-i
-bounds-costs-i c = c.requires.2
-
-pub offset_bounds-near-i : goal.offset_bounds-near-i
-offset_bounds-near-i c = omega (arith, c.requires)
-
-pub bounds-near-i : goal.bounds-near-i
-bounds-near-i c = c.requires.2
-
-pub loop-rest-init : goal.loop-rest-init
-loop-rest-init c = starts _ _ _ _ c.requires.0
-
-pub overflow_cast-k : goal.overflow_cast-k
-overflow_cast-k c = omega (arith, router _ _ _ _ _ _ c.loop-rest.invariant c.loop-rest-test.true)
-
-pub overflow_mul-i : goal.overflow_mul-i
-overflow_mul-i c = omega (arith, c.requires.2)
+pub loop-k-init : goal.loop-k-init
+loop-k-init c = starts _ _ _ _ _ (omega arith) (search rules)
 
 pub overflow_add-i : goal.overflow_add-i
-overflow_add-i c = omega (arith, c.requires.2, router _ _ _ _ _ _ c.loop-rest.invariant c.loop-rest-test.true)
+overflow_add-i c = omega (arith, linked (goal.at.overflow_add-i c).In-Some)
 
-pub offset_bounds-weights-i : goal.offset_bounds-weights-i
-offset_bounds-weights-i c = omega (arith, c.requires.2, router _ _ _ _ _ _ c.loop-rest.invariant c.loop-rest-test.true)
+pub offset_bounds-web-i-in-loop-k : goal.offset_bounds-web-i-in-loop-k
+offset_bounds-web-i-in-loop-k c = omega (arith, linked (goal.at.offset_bounds-web-i-in-loop-k c).In-Some)
 
-pub bounds-weights-i : goal.bounds-weights-i
-bounds-weights-i c = omega (arith, c.requires.2, router _ _ _ _ _ _ c.loop-rest.invariant c.loop-rest-test.true)
+pub bounds-web-i-in-loop-k : goal.bounds-web-i-in-loop-k
+bounds-web-i-in-loop-k c = omega (arith, linked (goal.at.bounds-web-i-in-loop-k c).In-Some)
 
 pub offset_bounds-costs-k : goal.offset_bounds-costs-k
-offset_bounds-costs-k c = omega (arith, router _ _ _ _ _ _ c.loop-rest.invariant c.loop-rest-test.true)
+offset_bounds-costs-k c = omega (arith, linked (goal.at.offset_bounds-costs-k c).In-Some)
 
 pub bounds-costs-k : goal.bounds-costs-k
-bounds-costs-k c = router _ _ _ _ _ _ c.loop-rest.invariant c.loop-rest-test.true
+bounds-costs-k c = linked (goal.at.bounds-costs-k c).In-Some
 
 pub leads-set-requires : goal.leads-set-requires
-leads-set-requires c = router _ _ _ _ _ _ c.loop-rest.invariant c.loop-rest-test.true
+leads-set-requires c = linked (goal.at.leads-set-requires c).In-Some
 
 pub overflow_add-set : goal.overflow_add-set
-overflow_add-set c =
-    let p = c.requires in
-    omega (arith, (onward _ _ _ _ _ _ c.loop-rest.invariant c.loop-rest-test.true p.1 p.2 _ c.leads-set.ensures).fits)
+overflow_add-set c = omega (arith, fits _ _ _ _ _ _ c.loop-k.invariant _ _ c.in-Some.ensures.steps (search rules) c.requires _ c.leads-set.ensures)
 
-pub overflow_sub-rest : goal.overflow_sub-rest
-overflow_sub-rest c = omega (arith, c.loop-rest-test.true)
-
-pub loop-rest-smaller : goal.loop-rest-smaller
-loop-rest-smaller c =
-    let p = c.requires in
-    (onward _ _ _ _ _ _ c.loop-rest.invariant c.loop-rest-test.true p.1 p.2 _ c.leads-set.ensures).fewer
-
-pub loop-rest-preserved : goal.loop-rest-preserved
-loop-rest-preserved c =
-    let p = c.requires in
-    (onward _ _ _ _ _ _ c.loop-rest.invariant c.loop-rest-test.true p.1 p.2 _ c.leads-set.ensures).walked
+pub loop-k-preserved : goal.loop-k-preserved
+loop-k-preserved c = onward _ _ _ _ _ _ c.loop-k.invariant _ _ c.in-Some.ensures.steps (search rules) c.requires _ c.leads-set.ensures
 
 pub returns : goal.returns
-returns c = ends _ _ _ _ _ _ c.loop-rest.invariant c.loop-rest-test.false
+returns c = ends _ _ _ _ _ _ c.loop-k.invariant (search rules)

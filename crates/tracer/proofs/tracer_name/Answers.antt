@@ -1,16 +1,18 @@
 -- `tracer::tracer_name` meets its contract.
 -- Assumes nothing.
-use mathlib.Core.Path.{◌∙◌}
+use Rattle.std.proofs.Common.{rules, refl}
 use Rattle.rules.proofs.NameQuestions.{two_names_proved}
-use Rattle.tracer.proofs.Packing.{name_packed, name_fits}
+use Rattle.tracer.specs.Packed.{name_bytes}
+use Rattle.tracer.proofs.Packing.{told_packed, told_named, named_fits}
 use Rattle.tracer.proofs.tracer_name.Goals as goal
 
-pub name_word-requires : goal.name_word-requires
-name_word-requires c =
+pub map_or_else-requires-clause-f_callable : goal.map_or_else-requires-clause-f_callable
+map_or_else-requires-clause-f_callable c =
     let e = c.naming_in_two.ensures in
-    name_fits _ _ _ e.0 e.1 (two_names_proved _).refusals.listed.near _ (two_names_proved _).fits
+    named_fits _ _ _ e.0 e.1 _ (two_names_proved _).fits
 
 pub returns : goal.returns
+unfolding name_bytes
 returns c =
     let e = c.naming_in_two.ensures in
-    c.name_word.ensures ∙ name_packed _ _ _ e.0 e.1
+    told_packed _ _ _ e.0 (name_bytes _) refl _ (told_named _ _ e.1 _ _ (search rules))

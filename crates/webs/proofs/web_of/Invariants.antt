@@ -1,10 +1,7 @@
--- `webs::web_of` meets its contract: at each turn the fields are the web of the links before.
-use Prim.Native.Nat.{◌-◌, ◌≤◌}
-use Rattle.webs.proofs.Laying.{Laid}
+-- `webs::web_of` meets its contract: at each turn the web is that of the links before.
+use mathlib.Core.Path.{◌≡◌}
+use Rattle.webs.proofs.Laying.{web_so_far}
 use Rattle.webs.proofs.web_of.Given as goal
 
 abbrev pub invariant-loop-i : goal.invariant-loop-i
-invariant-loop-i l = (l.i ≤ l.t.links) × Laid l.table l.t.start l.i l.web.near l.web.weights
-
-abbrev pub decreases-loop-i : goal.decreases-loop-i
-decreases-loop-i l = l.t.links - l.i
+invariant-loop-i l = l.web ≡ web_so_far l.table l.t.start l.i
