@@ -1,19 +1,17 @@
 -- The cells of an interface table, by the router's next-hop sets.
 -- Assumes nothing.
-use mathlib.Core.Path.{◌≡◌, refl, sym, ◌∙◌, ap, subst}
+use mathlib.Core.Path.{◌≡◌, refl, sym, ◌∙◌, ap}
 use mathlib.Core.Logic.{◌≢◌, inl}
 use mathlib.Core.Bool.{Bool, true, false}
 use mathlib.Core.List.{List, [], ◌∷◌, ◌++◌, map, flatten}
-use Prim.Native.Nat.{ℕ, zero, suc, ◌+◌, ◌^◌, ◌≤◌, ◌<◌}
+use Prim.Native.Nat.{ℕ, ◌+◌, ◌^◌, ◌≤◌, ◌<◌}
 use native.Mathlib.Decide.{ℕ_discrete, dec_lt}
 use native.Mathlib.Omega.{arith}
-use denote.Param.Members.{Mut, Called}
 use lib.Bits.{bit_or}
 use lib.Dec.{eqb}
 use lib.ListN.{length, get_or, take, drop, set, replicate, get_or-replicate, length-replicate}
 use lib.Seq.{ext_get_or, get_or-take}
 use borrow.Author.Tests.{eq-eqb, ne_eqb}
-use Rattle.std.specs.Array.{IsFromFnResult, IsFromFnResultFrom}
 use Rattle.std.specs.List.{fold}
 use Rattle.std.proofs.lemmas.List.Edits.{fill_by_more}
 use Rattle.rules.specs.Words.{pick, below, All}
@@ -38,21 +36,6 @@ use Rattle.interfaces.specs.Interfaces.{code_by, start_codes, code_from, cell_fr
 pub values_of : (f : ℕ → ℕ) (l : List ℕ) (n : ℕ) → length l ≡ n → ((k : ℕ) → k < n → get_or l k 0 ≡ f k) → l ≡ map f (below n)
 values_of f l n e h =
     ext_get_or 0 l (map f (below n)) (e ∙ sym (length_values f n)) (λ k b. h k (omega arith) ∙ sym (value_at f n k 0 (omega arith)))
-
--- values that calls give, one for each place: each call answers a function's value and leaves what is called as it was
-module _ {F : Type 0} {g : Mut F (ℕ × Unit {0}) ℕ} {f : F} (l : List ℕ) (v : ℕ → ℕ)
-    (h : (k y : ℕ) (q : F) → Called g f (k, tt) y q → (y ≡ v k) × (q ≡ f)) where
-  value_called : (n i : ℕ) → IsFromFnResultFrom g f l i n → (k : ℕ) → i ≤ k → k < i + n → get_or l k 0 ≡ v k
-  value_called zero i e k a b = absurd (omega arith)
-  value_called (suc n) i (q, y, at, called, rest) k a b =
-      go (ℕ_discrete k i) (value_called n (i + 1) (subst (λ q. IsFromFnResultFrom g q l (i + 1) n) (h i y q called).1 rest) k)
-    where
-      go : Dec (k ≡ i) → (i + 1 ≤ k → k < i + 1 + n → get_or l k 0 ≡ v k) → get_or l k 0 ≡ v k
-      go (yes e) ih = rw e (at.1 0 ∙ (h i y q called).0)
-      go (no e) ih = ih (omega arith) (omega arith)
-
-  pub values_called : (n : ℕ) → IsFromFnResult g f l n → l ≡ map v (below n)
-  values_called n made = values_of v l n made.long (λ k b. value_called n 0 made.each k (omega arith) (omega arith))
 
 -- one value more
 pub one_more : (f : ℕ → ℕ) (l : List ℕ) (i v : ℕ) → i < length l → v ≡ f i → ((k : ℕ) → k < i → get_or l k 0 ≡ f k)

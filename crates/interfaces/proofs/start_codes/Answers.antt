@@ -2,7 +2,7 @@
 -- Assumes nothing.
 use borrow.Author.Rules.{rules}
 use Rattle.interfaces.specs.Interfaces.{code_by, start_codes}
-use Rattle.interfaces.proofs.Cells.{values_called}
+use Rattle.routes.proofs.Called.{values_called}
 use Rattle.interfaces.proofs.start_codes.Goals as goal
 
 pub returns : goal.returns
