@@ -24,8 +24,8 @@ pub fn end<W: Write>(out: &mut W) -> io::Result<()>
 
 // A number's decimal digits at the end of an array, and the place of the first. By hand, and then written by `text`: of what `write!` leaves in a
 // writer after an error nothing is known.
-fn decimal(array: &mut [u8; 20], x: u64) -> usize
-    ensures { result ≤ 20 }
+fn decimal(array: &mut [u8], x: u64) -> usize
+    ensures { result ≤ length array.old }
 {
     let mut rest = x;
     for (at, digit) in array.iter_mut().enumerate().rev() {
@@ -47,12 +47,13 @@ pub fn digits<W: Write>(out: &mut W, x: u64) -> io::Result<()>
     text(out, &array[first..])
 }
 
-// A field that is a number.
+// A field that is a number, in one piece with the space in front: what is written to standard output is not gathered first.
 pub fn number<W: Write>(out: &mut W, x: u64) -> io::Result<()>
     ensures { Grows (W.contents out.old) (W.contents out.new) }
 {
-    text(out, b" ")?;
-    digits(out, x)
+    let mut array = [b' '; 21];
+    let first = decimal(&mut array[1..], x);
+    text(out, &array[first..])
 }
 
 // A line's letter.
@@ -81,26 +82,48 @@ pub fn answer<W: Write, const N: usize>(
 ) -> io::Result<()>
     ensures { Grows (W.contents out.old) (W.contents out.new) }
 {
-    let (refusal, values) = match answer {
-        Ok(values) => ([0; 3], values),
+    letter(out, question)?;
+    match answer {
+        Ok(values) => {
+            text(out, b" 0 0 0")?;
+            numbers(out, &values)
+        }
         Err(r) => {
             let reason = r.reason.number();
             let table = r.table.number();
-            ([reason as u64, table as u64, r.place as u64], [0; N])
+            numbers(out, &[reason as u64, table as u64, r.place as u64])?;
+            numbers(out, &[0; N])
         }
-    };
-    letter(out, question)?;
-    numbers(out, &refusal)?;
-    numbers(out, &values)
+    }
+}
+
+// A hexadecimal digit: worked out and not looked up, so that the compiler makes many at once.
+fn digit(x: u8) -> u8
+    requires { x < 16 }
+{
+    if x < 10 { b'0' + x } else { b'a' - 10 + x }
 }
 
 // The last hexadecimal digits of a number, as many as an array has places.
 fn hexadecimal(array: &mut [u8], x: u64) {
     let mut rest = x;
-    for digit in array.iter_mut().rev() {
-        *digit = b"0123456789abcdef"[(rest % 16) as usize];
+    for place in array.iter_mut().rev() {
+        *place = digit((rest % 16) as u8);
         rest /= 16;
     }
+}
+
+// A field that is an array of so many bytes, as pairs of digits: by `elements`, which divides for each digit, it takes several times as long.
+pub fn bytes<W: Write>(out: &mut W, array: &[u8; 4216], size: usize) -> io::Result<()>
+    ensures { Grows (W.contents out.old) (W.contents out.new) }
+{
+    let all = size.min(4216);
+    let mut page = [[0u8; 2]; 4216];
+    for (pair, byte) in page.iter_mut().zip(&array[..all]) {
+        *pair = [digit(*byte / 16), digit(*byte % 16)];
+    }
+    text(out, b" ")?;
+    text(out, page[..all].as_flattened())
 }
 
 // A field that is an array's elements, each in so many hexadecimal digits.
@@ -110,10 +133,10 @@ fn elements<W: Write, T: Copy + Into<u64>>(
     digits: usize,
 ) -> io::Result<()>
     requires some { 0 < digits }
-    requires room { digits * length array.now ≤ 8432 }
+    requires room { digits * length array.now ≤ 1536 }
     ensures { Grows (W.contents out.old) (W.contents out.new) }
 {
-    let mut page = [0u8; 8432];
+    let mut page = [0u8; 1536];
     for (place, x) in page.chunks_mut(digits).zip(array) {
         hexadecimal(place, (*x).into());
     }
@@ -121,14 +144,7 @@ fn elements<W: Write, T: Copy + Into<u64>>(
     text(out, &page[..digits * array.len()])
 }
 
-// A field that is an array of so many bytes. This and the next two give the room that `elements` asks for.
-pub fn bytes<W: Write>(out: &mut W, array: &[u8; 4216], size: usize) -> io::Result<()>
-    ensures { Grows (W.contents out.old) (W.contents out.new) }
-{
-    elements(out, &array[..size.min(4216)], 2)
-}
-
-// A field that is an array of so many costs.
+// A field that is an array of so many costs. This and the next give the room that `elements` asks for.
 pub fn costs<W: Write>(out: &mut W, array: &[u32; 96], size: usize) -> io::Result<()>
     ensures { Grows (W.contents out.old) (W.contents out.new) }
 {
