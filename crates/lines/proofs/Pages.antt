@@ -7,9 +7,8 @@ use native.Mathlib.Nat.{zero-add, add-zero}
 use native.Mathlib.Omega.{arith}
 use lib.ListN.{length, take, drop, take-append-drop, length-append}
 use lib.Seq.{drop-drop}
-use denote.MutBor.{MutBor}
 use Rattle.lines.specs.declared.Page.{Page}
-use Rattle.lines.specs.Lines.{written, Begins, Puts, Writes}
+use Rattle.lines.specs.Lines.{written, Puts, Writes}
 
 pub nothing_put : (p : Page) → Puts p [] p
 nothing_put p = record { lent = refl; behind = sym (add-zero p.end); more = sym (append-nil (written p)); rest = refl }
@@ -31,13 +30,13 @@ module _ {p p' : Page} {a : List ℕ} (w : Puts p a p') where
   put_as e = rw (← e) w
 
   -- on a page with nothing written on it, which is then given back
-  pub put_first : {bytes : MutBor (List ℕ)} {l : List ℕ} → Begins bytes p → l ≡ p'.bytes.now → Writes bytes.now a p'.end l
-  put_first {bytes} b e = record {
+  pub put_first : {old l : List ℕ} → p.bytes.now ≡ old → p.end ≡ 0 → l ≡ p'.bytes.now → Writes old a p'.end l
+  put_first same nothing e = record {
     counted = n;
     written =
         e ∙ sym (take-append-drop p'.end p'.bytes.now)
-        ∙ ap₂ (λ x y. x ++ y) (w.more ∙ ap (λ n. take n p.bytes.now ++ a) b.nothing) (w.rest ∙ ap₂ drop n b.same);
+        ∙ ap₂ (λ x y. x ++ y) (w.more ∙ ap (λ n. take n p.bytes.now ++ a) nothing) (w.rest ∙ ap₂ drop n same);
   }
     where
       n : p'.end ≡ length a
-      n = w.behind ∙ ap (λ n. n + length a) b.nothing ∙ zero-add (length a)
+      n = w.behind ∙ ap (λ n. n + length a) nothing ∙ zero-add (length a)

@@ -126,7 +126,9 @@ pub fn refusal_line(page: &mut [u8; 16384], number: u8, place: usize) -> usize
     page.text(b" at ").decimal(place as u64).byte(b'\n').end
 }
 
-// One router's lines to all others of so many routers, of which the first 64 count, by a search from it over a web.
+// One router's lines to all others of so many routers, of which the first 64 count, by a search from it over a web. Never inlined: where it is, the
+// compiler copies its caller's web once more, 8,704 bytes of stack.
+#[inline(never)]
 pub fn router_lines(page: &mut [u8; 16384], web: &Web, routers: u8, router: u8) -> usize
     ensures { WritesLines page.old web.now routers router result page.new }
 {

@@ -8,4 +8,4 @@ use Rattle.lines.proofs.header.Goals as goal
 
 pub returns : goal.returns
 unfolding text_from header
-returns c = put_first c.text.ensures c.begin.ensures (search rules)
+returns c = put_first c.text.ensures c.begin.ensures.same (search rules) (search rules)

@@ -11,4 +11,4 @@ unfolding refusal_line text_from
 returns c =
     put_first
     (put_more (put_more (put_more (put_more c.text.ensures c.decimal-page.ensures) c.text-2.ensures) c.decimal.ensures) c.byte.ensures)
-    c.begin.ensures (search rules)
+    c.begin.ensures.same (search rules) (search rules)

@@ -49,4 +49,4 @@ returns c =
     let f = c.all_from-found.result in
     let e : c.loop-d.d ≡ min a.routers 64 = omega (arith, c.min-d-end.ensures) in
     let s = ap (λ d. lines_below f a.router d) e ∙ ap (λ (f : Found). lines_found f a.routers a.router) c.all_from-found.ensures in
-    put_first (put_as c.loop-d.invariant.put s) c.begin-page.ensures (search rules)
+    put_first (put_as c.loop-d.invariant.put s) c.begin-page.ensures.same c.begin-page.ensures.nothing (search rules)
